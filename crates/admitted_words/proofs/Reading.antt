@@ -1,5 +1,6 @@
 -- Words that ask for a command that only reads ask for no request that writes.
 use Rattle.std.proofs.Common.{◌≡◌, ℕ, Bool, true, false, ◌&&◌, ◌||◌, not, List, [], ◌∷◌, codes, refl, sym, ◌∙◌, subst}
+use Rattle.std.proofs.lemmas.Bool.{true≢false}
 use Rattle.std.specs.Cmp.Lexicographic.{pointwise}
 use Rattle.std.specs.List.{list_any}
 use Rattle.std.specs.Str.{bytes_eq}
@@ -65,6 +66,7 @@ writes_nothing line (request.ExtractAll asked) h e = writing line (codes "extrac
 writes_nothing line (request.Rename asked) h e = writing line (codes "rename") _ refl (left _ _ h) e
 writes_nothing line (request.Delete asked) h e = writing line (codes "delete") _ refl (left _ _ h) e
 writes_nothing line (request.Relabel asked) h e = writing line (codes "relabel") _ refl (left _ _ (left _ _ (left _ _ h))) e
+writes_nothing line (request.Recover asked) h e = absurd (true≢false (writing line (codes "recover") _ refl (left _ _ h) e))
 writes_nothing line (request.Load asked) h e = writing line (codes "load") _ refl (left _ _ (left _ _ h)) e
 writes_nothing line (request.LoadMember asked) h e = writing line (codes "load") _ refl (left _ _ (left _ _ h)) e
 writes_nothing line (request.LoadAll asked) h e = writing line (codes "load") _ refl (left _ _ (left _ _ h)) e

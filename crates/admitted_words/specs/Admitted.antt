@@ -143,6 +143,8 @@ admits line (request.Delete asked) = changes line (codes "delete") (map (λ path
 admits line (request.Relabel asked) =
     changes line (codes "relabel") (map (λ path. path.now) asked.paths.items) asked.replaces []
     && is_valued line (codes "--label") (is_some asked.serial) && is_valued line (codes "--owner") (is_some asked.owner)
+admits line (request.Recover asked) =
+    asks line (codes "recover") (map (λ path. path.now) asked.paths.items) [] && is_set line (codes "--drop") asked.drops
 admits line (request.Load asked) =
     changes line (codes "load") (map (λ path. path.now) asked.paths.items) asked.replaces (asked.name.now ∷ [])
     && loads line asked.form (Some asked.source.now) None None

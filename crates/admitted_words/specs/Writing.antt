@@ -1,12 +1,12 @@
 -- Which requests write files, and which words ask for none of these.
-use Rattle.std.specs.Prelude.{◌≡◌, ℕ, Bool, true, false, ◌&&◌, ◌||◌, List, [], ◌∷◌, codes, map, drop}
+use Rattle.std.specs.Prelude.{◌≡◌, ℕ, Bool, true, false, not, ◌&&◌, ◌||◌, List, [], ◌∷◌, codes, map, drop}
 use Rattle.std.specs.List.{list_any}
 use Rattle.command_words.specs.Lines.{Line, line_of, has, begins}
 use Rattle.admitted_words.specs.declared.TheConstants.{VALUED}
 use Rattle.dasd_words.specs.declared.requests.Request.{Request}
 use Rattle.dasd_words.specs.declared.requests.Request.TheVariants as request
 
--- a request may write files; a run does unless they are not to be saved
+-- a request may write files; a run does unless they are not to be saved, and a journal that is dropped leaves them as they are
 abbrev pub may_write : Request → Bool
 may_write (request.Format image) = true
 may_write (request.FormatLabelled image label) = true
@@ -16,6 +16,7 @@ may_write (request.ExtractAll asked) = true
 may_write (request.Rename asked) = true
 may_write (request.Delete asked) = true
 may_write (request.Relabel asked) = true
+may_write (request.Recover asked) = not asked.drops
 may_write (request.Load asked) = true
 may_write (request.LoadMember asked) = true
 may_write (request.LoadAll asked) = true

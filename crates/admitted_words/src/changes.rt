@@ -9,7 +9,8 @@ ghost use Rattle.dasd_words.specs.declared.requests.Request.TheVariants as reque
 use crate::extracts::is_form;
 use command_words::CommandLine;
 use dasd_words::{
-    DeletedSet, FileForm, LoadedFile, LoadedFolder, LoadedMember, RelabelledVolume, RenamedSet,
+    DeletedSet, FileForm, LoadedFile, LoadedFolder, LoadedMember, RecoveredFiles, RelabelledVolume,
+    RenamedSet,
 };
 
 /// Whether words ask for this data set to be renamed.
@@ -36,6 +37,13 @@ pub(crate) fn changes_label(line: &CommandLine, asked: &RelabelledVolume) -> boo
         && line.is_set("--replace", asked.replaces)
         && line.is_valued("--label", asked.serial.is_some())
         && line.is_valued("--owner", asked.owner.is_some())
+}
+
+/// Whether words ask for these files to be recovered.
+pub(crate) fn recovers_files(line: &CommandLine, asked: &RecoveredFiles) -> bool
+    ensures { result ≡ admits (seen line.now) (request.Recover asked.now) }
+{
+    line.asks("recover", asked.paths.as_slice(), &[]) && line.is_set("--drop", asked.drops)
 }
 
 // Whether words name this file, this folder and this member, and say that files have this.

@@ -6,7 +6,7 @@ ghost use Rattle.command_words.specs.Lines.{seen};
 ghost use Rattle.admitted_words.specs.Admitted.{formats, admits, asks_text};
 
 use crate::changes::{
-    changes_label, deletes_set, loads_file, loads_folder, loads_member, renames_set,
+    changes_label, deletes_set, loads_file, loads_folder, loads_member, recovers_files, renames_set,
 };
 use crate::extracts::{extracts_all, extracts_set, extracts_tracks, lists_members};
 use crate::prints::{compares, dumps, prints, prints_plainly};
@@ -46,6 +46,7 @@ pub(crate) fn admits(
         Request::Rename(asked) => Ok(renames_set(line, asked)),
         Request::Delete(asked) => Ok(deletes_set(line, asked)),
         Request::Relabel(asked) => Ok(changes_label(line, asked)),
+        Request::Recover(asked) => Ok(recovers_files(line, asked)),
         Request::Load(asked) => Ok(loads_file(line, asked)),
         Request::LoadMember(asked) => Ok(loads_member(line, asked)),
         Request::LoadAll(asked) => Ok(loads_folder(line, asked)),

@@ -4,7 +4,7 @@ use ckd_image::MountFault;
 use dasd_jobs::JobFault;
 use dasd_run::ProgramFault;
 use dasd_words::{VOLUME_RULE, first_bad_volume, object_path, taken_address};
-use file_journals::Notes;
+use file_places::Notes;
 use host_files::Remarks;
 use serde_json::Value;
 use std::alloc::{AllocError, Global};

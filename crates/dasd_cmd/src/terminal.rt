@@ -4,7 +4,7 @@ ghost use Rattle.std.specs.Prelude.{◌≡◌, false};
 ghost use Rattle.std.specs.Io.{WritesAtMost};
 
 use dasd_jobs::{Progress, Stage};
-use file_journals::Notes;
+use file_places::Notes;
 use host_files::{ERASE_BEHIND, Remarks};
 use std::io;
 use std::io::{ErrorKind, Read, Write};

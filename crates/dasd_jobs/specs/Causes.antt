@@ -1,4 +1,5 @@
 -- Which fault of a job comes of which fault of a file or a volume.
+use Rattle.std.specs.Prelude.{◌≡◌}
 use Rattle.ckd_image.specs.declared.fault.MountFault.{MountFault}
 use Rattle.ckd_image.specs.declared.fault.MountFault.TheVariants as mount
 use Rattle.dasd_volumes.specs.declared.fault.VolumeFault.{VolumeFault}
@@ -34,3 +35,7 @@ volume_fault volume.Write = job.Write
 abbrev pub mounting_fault : MountFault → JobFault
 mounting_fault mount.StoreFault = job.Read
 mounting_fault broken = job.Mount broken
+
+-- a fault is one of a file that is made or replaced
+abbrev pub IsOfWriting : JobFault → Type 0
+IsOfWriting e = (f : FileFault) × (e ≡ writing_fault f)

@@ -44,6 +44,7 @@ writes_none (request.ExtractAll asked) result before now h a = cc
 writes_none (request.Rename asked) result before now h a = cc
 writes_none (request.Delete asked) result before now h a = cc
 writes_none (request.Relabel asked) result before now h a = cc
+writes_none (request.Recover asked) result before now h a = a.0.0
 writes_none (request.Load asked) result before now h a = cc
 writes_none (request.LoadMember asked) result before now h a = cc
 writes_none (request.LoadAll asked) result before now h a = cc

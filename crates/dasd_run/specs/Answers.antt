@@ -33,6 +33,7 @@ use Rattle.dasd_run.specs.Outside.{Outside, Looks}
 use Rattle.dasd_run.specs.Paths.{joined_paths, quoted_paths}
 use Rattle.dasd_run.specs.Printed.{style_of, paths_of, asked_part, asked_list, HasCylinders, IsUnopened, HashesWhole, PrintsPart, TakesMemoryFirst}
 use Rattle.dasd_run.specs.Reaches.{EndsOver}
+use Rattle.dasd_run.specs.Recovered.{Recovers}
 use Rattle.dasd_run.specs.Runs.{RunsOrStops}
 use Rattle.dasd_run.specs.Strict.{ChecksStrictly}
 use Rattle.dasd_run.specs.Unloads.{ExtractsSet, ExtractsTracks, ExtractsVolume}
@@ -116,6 +117,7 @@ Answers (request.Hash asked) result before now = HashesVolume result asked befor
 Answers (request.Rename asked) result before now = RenamesAsked result asked before now × (now.read ≡ before.read)
 Answers (request.Delete asked) result before now = DeletesAsked result asked before now × (now.read ≡ before.read)
 Answers (request.Relabel asked) result before now = RelabelsAsked result asked before now × (now.read ≡ before.read)
+Answers (request.Recover asked) result before now = Recovers result before now
 Answers (request.Load asked) result before now = LoadsAsked result asked before now × (now.read ≡ before.read)
 Answers (request.LoadAll asked) result before now = FolderAsked result asked before now × (now.read ≡ before.read)
 Answers (request.LoadMember asked) result before now = MemberAsked result asked before now × (now.read ≡ before.read)

@@ -17,6 +17,7 @@ pub mod Strict
 pub mod Loads
 pub mod Words
 pub mod Labels
+pub mod Recovered
 pub mod Answers
 pub mod Folders
 pub mod Obeyed

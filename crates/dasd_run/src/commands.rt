@@ -22,6 +22,7 @@ use crate::hash::hash_volume;
 use crate::host::Host;
 use crate::labels::format_with_label;
 use crate::list::list_part;
+use crate::recovery::recover;
 use crate::runs::{Disks, build, finish, tell_running};
 use crate::strict::check_strictly;
 use crate::traces::{begin_trace, end_trace};
@@ -31,8 +32,8 @@ use crate::words::{assemble_text, disassemble_deck};
 use admitted_words::read_admitted;
 use counted_io::{Counted, WriteFault, write_flushed};
 use dasd_jobs::{
-    ImageFiles, JobFault, NewVolume, Progress, SavePlan, Traces, check_files, format_file,
-    list_files,
+    ImageFiles, JobFault, Journals, NewVolume, Progress, SavePlan, Traces, check_files,
+    format_file, list_files,
 };
 use dasd_words::{DeckRun, NewImage, Request, WordFault};
 use s360_deck::RunFault;
@@ -57,7 +58,7 @@ pub enum Ending {
 /// where data sets are unloaded, with one of a file that is opened, read, locked or mounted. With a write fault a format may have
 /// written its file, and its line is not printed. A run that can't save a volume has saved those before it; one whose trace can't be
 /// written ends as without it, and then reports that.
-pub fn obey<F: Traces, R: Read, W: Write, P: Progress>(
+pub fn obey<F: Journals, R: Read, W: Write, P: Progress>(
     host: &mut Host<F, R, W, P>,
     words: &[&str],
 ) -> Result<Ending, ProgramFault>
@@ -84,7 +85,7 @@ pub fn obey<F: Traces, R: Read, W: Write, P: Progress>(
 /// # Errors
 ///
 /// What stopped the command, as of `obey`.
-pub fn answer<F: Traces, R: Read, W: Write, P: Progress>(
+pub fn answer<F: Journals, R: Read, W: Write, P: Progress>(
     host: &mut Host<F, R, W, P>,
     request: Request,
 ) -> Result<Ending, ProgramFault>
@@ -110,6 +111,7 @@ pub fn answer<F: Traces, R: Read, W: Write, P: Progress>(
         Request::Rename(asked) => rename_set(host, &asked),
         Request::Delete(asked) => delete_set(host, &asked),
         Request::Relabel(asked) => relabel(host, &asked),
+        Request::Recover(asked) => recover(host, &asked),
         Request::Load(asked) => load_file(host, &asked),
         Request::LoadAll(asked) => load_all(host, &asked),
         Request::LoadMember(asked) => load_one(host, &asked),

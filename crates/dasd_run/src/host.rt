@@ -9,7 +9,7 @@ ghost use Rattle.dasd_run.specs.Obeyed.{Obeys, outside};
 use crate::commands::{Ending, obey};
 use crate::fault::ProgramFault;
 use counted_io::Counted;
-use dasd_jobs::{Progress, Traces};
+use dasd_jobs::{Journals, Progress, Traces};
 use std::alloc::Global;
 use std::io::{Read, Write};
 use std::marker::Model;
@@ -64,7 +64,7 @@ pub struct HostParts<F, R, W, P> {
 /// # Errors
 ///
 /// Those of `obey`.
-pub fn obey_with<F: Traces, R: Read, W: Write, P: Progress>(
+pub fn obey_with<F: Journals, R: Read, W: Write, P: Progress>(
     parts: HostParts<F, R, W, P>,
     words: &[&str],
 ) -> (Result<Ending, ProgramFault>, HostParts<F, R, W, P>)

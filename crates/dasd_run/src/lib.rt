@@ -17,6 +17,7 @@ mod list;
 mod loads;
 mod printed_paths;
 mod reaches;
+mod recovery;
 mod remarks;
 mod runs;
 mod saves;

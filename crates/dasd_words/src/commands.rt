@@ -2,7 +2,9 @@
 
 use crate::options::{CommandRow, VERBOSE, command, with_arg};
 use crate::requests::{Asked, Request, WordFault};
-use crate::{archive, assembler, changes, explain, extract, format, hash, list, loads, run, vtoc};
+use crate::{
+    archive, assembler, changes, explain, extract, format, hash, list, loads, recover, run, vtoc,
+};
 use clap::error::ErrorKind;
 use clap::{ArgMatches, Command, Error};
 use std::alloc::{AllocError, Global};
@@ -10,7 +12,7 @@ use std::alloc::{AllocError, Global};
 pub(crate) const NO_PATH: &str = "error: no path\n";
 
 /// How many commands there are.
-const COMMANDS: usize = 16;
+const COMMANDS: usize = 17;
 
 // The row of a command by its place in the help: first those over volumes, then those that change one, then those over decks. Each row is a
 // static of its own: the proof of what names a static goes over all that it holds at once.
@@ -28,10 +30,11 @@ fn row_at(place: usize) -> Option<&'static CommandRow> {
         9 => Some(&changes::RENAME),
         10 => Some(&changes::DELETE),
         11 => Some(&changes::RELABEL),
-        12 => Some(&explain::COMMAND),
-        13 => Some(&assembler::ASSEMBLE),
-        14 => Some(&assembler::DISASSEMBLE),
-        15 => Some(&run::COMMAND),
+        12 => Some(&recover::COMMAND),
+        13 => Some(&explain::COMMAND),
+        14 => Some(&assembler::ASSEMBLE),
+        15 => Some(&assembler::DISASSEMBLE),
+        16 => Some(&run::COMMAND),
         _ => None,
     }
 }
@@ -120,6 +123,7 @@ fn read_request<'a>(
         "rename" => changes::read_rename(alloc, options),
         "delete" => changes::read_delete(alloc, options),
         "relabel" => changes::read_relabel(alloc, options),
+        "recover" => recover::read(alloc, options),
         "explain" => explain::read(alloc, options),
         "assemble" => Ok(assembler::read_assemble(options)),
         "disassemble" => Ok(assembler::read_disassemble(options)),

@@ -16,6 +16,7 @@ mod listings;
 mod loads;
 mod options;
 mod record_words;
+mod recover;
 mod refused;
 mod requests;
 mod run;
@@ -31,6 +32,7 @@ pub use crate::requests::{
     Asked, AskedTrace, ComparedVolumes, DeckRun, DeletedSet, DetailedVolume, DumpedPart,
     ExtractedSet, ExtractedTracks, ExtractedVolume, FileForm, HashedVolume, ListedLibrary,
     ListedPart, LoadedFile, LoadedFolder, LoadedMember, NewImage, Noted, Numbers, PrintedVolume,
-    RelabelledVolume, RenamedSet, Request, SetName, StrictCheck, TraceTarget, WordFault,
+    RecoveredFiles, RelabelledVolume, RenamedSet, Request, SetName, StrictCheck, TraceTarget,
+    WordFault,
 };
 pub use crate::volumes::{Volume, VolumeSource};

@@ -103,6 +103,8 @@ pub enum Request<'a> {
     Delete(DeletedSet<'a>),
     /// Change what the label of a volume says.
     Relabel(RelabelledVolume<'a>),
+    /// Complete saves that were cut off, or drop their journals.
+    Recover(RecoveredFiles<'a>),
     /// Put a data set onto a volume.
     Load(LoadedFile<'a>),
     /// A file is put into a library of a volume as a new member.
@@ -278,6 +280,15 @@ pub struct RelabelledVolume<'a> {
     pub serial: Option<[u8; 6]>,
     /// The owner's name, in EBCDIC.
     pub owner: Option<[u8; 10]>,
+}
+
+/// Files whose saves were maybe cut off.
+#[derive(Drop)]
+pub struct RecoveredFiles<'a> {
+    /// The files.
+    pub paths: Vec<&'a str>,
+    /// Whether their journals are dropped; if not, the saves are completed.
+    pub drops: bool,
 }
 
 /// A file that is put onto a volume as a data set.

@@ -8,9 +8,8 @@ ghost use Rattle.sha2.specs.Sha256.{sha256};
 
 use crate::hosts::OpenedFile;
 use crate::marks::{is_marked, put_mark, take_mark};
-use crate::notes::Notes;
-use crate::places::name_of;
 use atomic_save::{Change, Journal};
+use file_places::{Notes, name_of};
 use sha2::{Digest, Sha256};
 use std::alloc::Global;
 use std::fs::File;
@@ -31,6 +30,17 @@ const SUM: usize = 8;
 
 /// How many bytes the SHA-256 has.
 const DIGEST: usize = 32;
+
+/// Which bytes a file has where a journal changes it.
+#[derive(Clone, Copy)]
+pub(crate) enum Held {
+    /// Those that it held before.
+    Old,
+    /// Those that are written.
+    New,
+    /// In each sector the ones or the others.
+    Either,
+}
 
 /// A file of a save that is read. Where its bytes can't be, it notes where and why.
 #[derive(Drop)]
@@ -262,8 +272,8 @@ impl<N: Notes> Looked<'_, N> {
         Ok(())
     }
 
-    /// Whether the file holds, wherever a journal changes it, what that writes or what it held before, and elsewhere what it held before.
-    pub(crate) fn fits(&self, journal: &Journal) -> io::Result<bool> {
+    /// Whether the file holds these bytes wherever a journal changes it, and elsewhere what it held before.
+    pub(crate) fn fits(&self, journal: &Journal, bytes: Held) -> io::Result<bool> {
         if !journal
             .changes
             .iter()
@@ -285,7 +295,7 @@ impl<N: Notes> Looked<'_, N> {
             let (Some(own), Some(after)) = (sums.get(..count), sums.get(count..)) else {
                 return Ok(false);
             };
-            if change.file == self.place && !self.holds(change, own)? {
+            if change.file == self.place && !self.holds(change, own, bytes)? {
                 return Ok(false);
             }
             sums = after;
@@ -293,8 +303,8 @@ impl<N: Notes> Looked<'_, N> {
         Ok(true)
     }
 
-    // Whether each sector that a change touches is the new one, or has the sum of the old one.
-    fn holds(&self, change: &Change, sums: &[u8]) -> io::Result<bool> {
+    // Whether each sector that a change touches has these bytes: the old ones by their sum.
+    fn holds(&self, change: &Change, sums: &[u8], bytes: Held) -> io::Result<bool> {
         let mut held = vec![in self.notes.host().alloc(); 0; change.bytes.len()]?;
         self.read(&mut held, change.at)?;
         if change.at == 0 {
@@ -302,7 +312,12 @@ impl<N: Notes> Looked<'_, N> {
         }
         let pairs = held.chunks(SECTOR).zip(change.bytes.chunks(SECTOR));
         for ((held, new), sum) in pairs.zip(sums.chunks(SUM)) {
-            if held != new && sum != sum_of(held).as_slice() {
+            let is_right = match bytes {
+                Held::Old => sum == sum_of(held).as_slice(),
+                Held::New => held == new,
+                Held::Either => held == new || sum == sum_of(held).as_slice(),
+            };
+            if !is_right {
                 return Ok(false);
             }
         }

@@ -6,9 +6,8 @@ ghost use Rattle.atomic_save.specs.Changes.{notes};
 ghost use Rattle.atomic_save.specs.Calls.{files_of, shown};
 ghost use Rattle.atomic_save.specs.Saves.{HasCause};
 
-use crate::drafts::make_file;
-use crate::places::{folder_of, from_folder, sync_names};
 use atomic_save::{Call, CallLog, Change, FileId, Host, HostFault, JournalFile};
+use file_places::{folder_of, from_folder, make_file, sync_names};
 use ghost_data::Count;
 use journal_text::journal_bytes;
 use std::fs::{self, File, Metadata};

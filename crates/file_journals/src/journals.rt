@@ -5,10 +5,8 @@ ghost use Rattle.std.specs.IoError.{error_kind};
 
 use crate::hosts::{LEADS, id_of};
 use crate::marks::Mark;
-use crate::notes::{Notes, Told};
-use crate::places::{beside, folder_of, home_of};
-use crate::saves::{is_same, wrong};
 use atomic_save::{FileId, Journal};
+use file_places::{Notes, Told, beside, folder_of, home_of, is_same, wrong};
 use journal_text::{JournalFault, read_journal};
 use std::fs::{self, File, Metadata};
 use std::io::{self, ErrorKind};
@@ -17,6 +15,9 @@ use std::path::{Path, PathBuf};
 
 /// Why a file is refused whose journal is not taken.
 pub(crate) const UNREAD: &str = "a save of it was cut off, and can't be read";
+
+/// Why a save is not completed that is asked for.
+pub(crate) const UNWRITABLE: &str = "a file of its save may not be written";
 
 /// A journal of a file.
 #[derive(Drop)]
@@ -29,6 +30,15 @@ pub(crate) struct FoundJournal {
     pub(crate) place: usize,
 }
 
+/// A journal, which may be of another file than the one at whose side it is.
+#[derive(Drop)]
+pub(crate) struct ReadJournal {
+    pub(crate) path: PathBuf,
+    /// What is known of the journal's own file.
+    pub(crate) known: Metadata,
+    pub(crate) journal: Journal,
+}
+
 /// What is beside a file.
 #[derive(Drop)]
 pub(crate) enum Beside {
@@ -38,6 +48,19 @@ pub(crate) enum Beside {
     Idle(PathBuf, PathBuf),
     /// The journal, or what leads there.
     Journal(FoundJournal),
+    /// The journal of another file, or what leads there.
+    Others(ReadJournal),
+}
+
+impl Beside {
+    /// The journal that is there or to which it leads, and what is known of its file.
+    pub(crate) fn journal(&self) -> Option<(&PathBuf, &Metadata)> {
+        match self {
+            Beside::Journal(it) => Some((&it.path, &it.known)),
+            Beside::Others(it) => Some((&it.path, &it.known)),
+            Beside::Nothing | Beside::Idle(_, _) => None,
+        }
+    }
 }
 
 /// What is beside the file to which a path leads, by its name, or by the one in its mark.
@@ -51,16 +74,36 @@ pub(crate) fn look_beside<N: Notes>(
     file: &File,
     known: &Metadata,
 ) -> io::Result<Beside> {
+    match find_beside(notes, path, file, known)? {
+        Beside::Others(it) => {
+            notes.tell(&Told::Other(path, it.path.as_str()));
+            Err(wrong(UNREAD))
+        }
+        beside => Ok(beside),
+    }
+}
+
+/// The same, also where the journal is of another file.
+///
+/// # Errors
+///
+/// As of `look_beside`.
+pub(crate) fn find_beside<N: Notes>(
+    notes: &N,
+    path: &str,
+    file: &File,
+    known: &Metadata,
+) -> io::Result<Beside> {
     let home = home_of(notes.host(), path)?;
     let named = match beside(notes.host(), home.as_path())? {
-        Some(place) => look_at(notes, path, place, known)?,
+        Some(place) => look_at(notes, place, known)?,
         None => Beside::Nothing,
     };
     // what can't be read now is told by what reads it next
     let Ok(Some(mark)) = Mark::read(file) else {
         return Ok(named);
     };
-    if matches!(named, Beside::Journal(_)) {
+    if matches!(named, Beside::Journal(_) | Beside::Others(_)) {
         return Ok(named);
     }
     let name = str::from_utf8(&mark.bytes[8..])
@@ -70,8 +113,8 @@ pub(crate) fn look_beside<N: Notes>(
         return Err(wrong(UNREAD));
     }
     let place = folder_of(home.as_path()).join(notes.host().alloc(), name)?;
-    let found = look_at(notes, path, place, known)?;
-    if matches!(found, Beside::Journal(_)) {
+    let found = look_at(notes, place, known)?;
+    if matches!(found, Beside::Journal(_) | Beside::Others(_)) {
         return Ok(found);
     }
     // unless its save was ended meanwhile
@@ -86,20 +129,24 @@ pub(crate) fn look_beside<N: Notes>(
     Err(wrong(UNREAD))
 }
 
-// What is at a place, or where that leads, for a file that a path leads to.
-fn look_at<N: Notes>(notes: &N, path: &str, place: PathBuf, of: &Metadata) -> io::Result<Beside> {
+/// What is at a place, or where that leads, for a file.
+///
+/// # Errors
+///
+/// It is not taken for a journal, which is told, or the host refuses something.
+pub(crate) fn look_at<N: Notes>(notes: &N, place: PathBuf, of: &Metadata) -> io::Result<Beside> {
     let Some(text) = text_at(notes, place, of)? else {
         return Ok(Beside::Nothing);
     };
     let Some(way) = text.bytes.strip_prefix(LEADS.as_slice()) else {
-        return take(notes, path, text, of);
+        return take(notes, text, of);
     };
     let Ok(way) = str::from_utf8(way) else {
         return Err(refuse_unfit(notes, text.path.as_path(), wrong("a damaged marker")));
     };
     let led = folder_of(text.path.as_path()).join(notes.host().alloc(), way)?;
     match text_at(notes, led.clone()?, of)? {
-        Some(text) => take(notes, path, text, of),
+        Some(text) => take(notes, text, of),
         None => Ok(Beside::Idle(text.path, led)),
     }
 }
@@ -139,7 +186,7 @@ fn read_text(host: &HostRuntime, path: Path<'_>, of: &Metadata) -> io::Result<(M
 }
 
 // The journal of a file, by its bytes.
-fn take<N: Notes>(notes: &N, path: &str, text: Text, of: &Metadata) -> io::Result<Beside> {
+fn take<N: Notes>(notes: &N, text: Text, of: &Metadata) -> io::Result<Beside> {
     let Text {
         path: place,
         known,
@@ -156,10 +203,11 @@ fn take<N: Notes>(notes: &N, path: &str, text: Text, of: &Metadata) -> io::Resul
             journal,
             place: number,
         })),
-        None => {
-            notes.tell(&Told::Other(path, place.as_str()));
-            Err(wrong(UNREAD))
-        }
+        None => Ok(Beside::Others(ReadJournal {
+            path: place,
+            known,
+            journal,
+        })),
     }
 }
 

@@ -6,11 +6,9 @@ ghost use Rattle.std.specs.Prelude.{◌≤◌};
 use crate::bytes::are_either;
 use crate::changes::Looked;
 use crate::hosts::{birth_of, write_at};
-use crate::journals::{check_owner, refuse};
-use crate::notes::{Notes, Told};
-use crate::places::{folder_of, home_of, sync_folder};
+use crate::journals::{UNREAD, UNWRITABLE, check_owner, refuse};
 use crate::recovery::{WholeFile, open_writable};
-use crate::saves::{is_same, wrong};
+use file_places::{Notes, Told, folder_of, home_of, is_same, sync_folder, wrong};
 use std::fs::{self, File, Metadata};
 use std::io::{self, ErrorKind};
 use std::os::unix::fs::MetadataExt;
@@ -67,6 +65,47 @@ pub(crate) fn whole_by_old<N: Notes>(
         file: journal.file,
         journal: None,
     })
+}
+
+/// Completes the save of a file, and says whether there was a journal.
+///
+/// # Errors
+///
+/// As of `whole_by_old`; or the file may not be written.
+pub(crate) fn complete_old<N: Notes>(notes: &N, path: &str, file: &File) -> io::Result<bool> {
+    let known = file.metadata()?;
+    let Some(journal) = find(notes, path, &known)? else {
+        return Ok(false);
+    };
+    if !journal.pass(file, false)? {
+        notes.tell(&Told::Changed(path, journal.path.as_str()));
+        return Err(wrong("it was written by another program since"));
+    }
+    let Some(target) = open_writable(notes.host(), path, &known)? else {
+        return Err(io::Error::new(ErrorKind::PermissionDenied, UNWRITABLE));
+    };
+    journal.end(&target)?;
+    Ok(true)
+}
+
+/// Removes the journal of a file, unless the save can be completed by it, and says whether there was one.
+///
+/// # Errors
+///
+/// Its journal can't be read, or fits the file; or the host refuses something.
+pub(crate) fn drop_old<N: Notes>(notes: &N, path: &str, file: &File) -> io::Result<bool> {
+    let Some(journal) = find(notes, path, &file.metadata()?)? else {
+        return Ok(false);
+    };
+    let place = journal.path.as_path();
+    if journal.pass(file, false)? {
+        notes.tell(&Told::Needed(path, place.as_str()));
+        return Err(wrong(UNREAD));
+    }
+    fs::remove_file(notes.host(), place)?;
+    sync_folder(notes, folder_of(place))?;
+    notes.tell(&Told::Dropped(path, place.as_str()));
+    Ok(true)
 }
 
 // The journal of the file to which a path leads, if there is one. What is no regular file is none.

@@ -4,8 +4,7 @@ ghost use Rattle.std.specs.Prelude.{◌≡◌, false};
 ghost use Rattle.std.specs.Fs.{metadata_len};
 
 use crate::marks::Mark;
-use crate::notes::Notes;
-use crate::places::{beside, home_of, is_free};
+use file_places::{Notes, beside, home_of, is_free};
 use std::alloc::Global;
 use std::cell::RefCell;
 use std::fs::{File, Metadata, TryLockError};

@@ -6,19 +6,18 @@ ghost use Rattle.atomic_save.specs.Calls.{shown};
 ghost use Rattle.atomic_save.specs.Saves.{SafeThroughout, SameThroughout, SavedFor, NoJournal};
 ghost use Rattle.file_journals.specs.Told.{Tells};
 
-use crate::changes::Looked;
+use crate::changes::{Held, Looked};
 use crate::hosts::{OpenedFile, SaveHost, id_of};
 use crate::journals::{Beside, FoundJournal, UNREAD, check_owner, look_beside, place_in};
-use crate::notes::{Notes, Told};
 use crate::old_journals::whole_by_old;
-use crate::places::{beside, folder_of};
-use crate::saves::{SaveFault, open_target, settle, told, wrong};
-use atomic_save::{Change, Found, HostFault, Journal, finish, open};
+use crate::saves::{SaveFault, open_target, settle, told};
+use atomic_save::{Change, Found, HostFault, Journal, JournalFile, finish, open};
+use file_places::{Notes, Told, beside, folder_of, wrong};
 use ghost_data::{Count, Trace};
 use std::fs::{self, File, Metadata, TryLockError};
 use std::io::{self, ErrorKind};
 use std::os::unix::fs::{FileExt, MetadataExt};
-use std::path::PathBuf;
+use std::path::{Path, PathBuf};
 
 /// What is read of a file: its bytes, and over them those of its journal.
 #[derive(Drop)]
@@ -117,13 +116,23 @@ pub fn whole_file<N: Notes>(
         }
         _ => {}
     }
+    check_released(notes, path, &file)?;
+    whole_by_old(notes, path, file, may_write)
+}
+
+/// Looks whether a program between two versions was cut off as it saved a file.
+///
+/// # Errors
+///
+/// It was, which is told.
+pub(crate) fn check_released<N: Notes>(notes: &N, path: &str, file: &File) -> io::Result<()> {
     let mut first = [0; 8];
     let is_read = file.read_exact_at(&mut first, 0).is_ok();
     if is_read && (first == *b"dasd+cut" || first == *b"dasd+all") {
         notes.tell(&Told::Unreleased(path));
         return Err(wrong(UNREAD));
     }
-    whole_by_old(notes, path, file, may_write)
+    Ok(())
 }
 
 // What is read of a file whose save was cut off.
@@ -162,8 +171,12 @@ fn take_up<N: Notes>(
     })
 }
 
-// Looks whether another program wrote a file since.
-fn check_fit<N: Notes>(
+/// Looks whether another program wrote a file since.
+///
+/// # Errors
+///
+/// It did, which is told, or the host can't read the file.
+pub(crate) fn check_fit<N: Notes>(
     notes: &N,
     path: &str,
     found: &FoundJournal,
@@ -176,15 +189,19 @@ fn check_fit<N: Notes>(
         file,
         place,
     };
-    if it.fits(&found.journal)? {
+    if it.fits(&found.journal, Held::Either)? {
         return Ok(());
     }
     notes.tell(&Told::Changed(path, found.path.as_str()));
     Err(wrong("it was written by another program since"))
 }
 
-// Opens all files of a journal, of which one is this, to be written, and locks the others; none where one may not be written.
-fn open_all<N: Notes>(
+/// Opens all files of a journal, of which one is this, to be written, and locks the others; none where one may not be written.
+///
+/// # Errors
+///
+/// One is not there, is another file, is locked or does not fit, or the host can't open it.
+pub(crate) fn open_all<N: Notes>(
     notes: &N,
     path: &str,
     found: &FoundJournal,
@@ -192,10 +209,7 @@ fn open_all<N: Notes>(
     let alloc = notes.host().alloc();
     let mut files = Vec::new(alloc);
     for (place, it) in found.journal.files.iter().enumerate() {
-        let Ok(name) = str::from_utf8(&it.name) else {
-            return Err(wrong(UNREAD));
-        };
-        let home = folder_of(found.path.as_path()).join(alloc, name)?;
+        let home = home_in(notes.host(), found.path.as_path(), it)?;
         let is_this = place == found.place;
         let given = if is_this { path } else { home.as_str() };
         let Some(file) = open_one(notes, given, found, place)? else {
@@ -218,6 +232,22 @@ fn open_all<N: Notes>(
         })?;
     }
     Ok(Some(files))
+}
+
+/// Where a file lies by the journal at this path.
+///
+/// # Errors
+///
+/// Its name is no text, or there is no memory.
+pub(crate) fn home_in(
+    host: &HostRuntime,
+    journal: Path<'_>,
+    it: &JournalFile,
+) -> io::Result<PathBuf> {
+    let Ok(name) = str::from_utf8(&it.name) else {
+        return Err(wrong(UNREAD));
+    };
+    Ok(folder_of(journal).join(host.alloc(), name)?)
 }
 
 // Opens a file of a journal, and locks it, unless it is that of the caller; none where it may not be written.
@@ -250,8 +280,12 @@ fn open_one<N: Notes>(
     Ok(opened)
 }
 
-// Completes a save by its journal, of whose files one was found by a path.
-fn complete<N: Notes>(
+/// Completes a save by its journal, of whose files one was found by a path.
+///
+/// # Errors
+///
+/// The host refuses something; what that leaves of the files is told.
+pub(crate) fn complete<N: Notes>(
     notes: &N,
     path: &str,
     found: &FoundJournal,

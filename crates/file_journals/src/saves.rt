@@ -1,7 +1,6 @@
 //! Saves of files in their places.
 
 ghost use Rattle.std.specs.Prelude.{◌≡◌, None, Ok, IfOk, IfErr, OnOk};
-ghost use Rattle.std.specs.IoError.{error_kind};
 ghost use Rattle.atomic_save.specs.Changes.{notes};
 ghost use Rattle.atomic_save.specs.Calls.{shown};
 ghost use Rattle.atomic_save.specs.Saves.{SafeThroughout, SavedFor, NoJournal};
@@ -9,9 +8,8 @@ ghost use Rattle.file_journals.specs.Told.{TellsOf, Tells, Settles};
 
 use crate::changes::{Changes, Looked};
 use crate::hosts::{OpenedFile, SaveHost, id_of};
-use crate::notes::{Notes, Told};
-use crate::places::{beside, folder_of, is_free};
 use atomic_save::{Change, save};
+use file_places::{Notes, Told, beside, folder_of, is_free, is_same, wrong};
 use std::fs::{self, File, Metadata, OpenOptions};
 use std::io::{self, ErrorKind};
 use std::os::unix::fs::MetadataExt;
@@ -203,16 +201,4 @@ pub fn open_target<P: AsPath>(host: &HostRuntime, path: P, known: &Metadata) -> 
         let why = "another program replaces it";
         Err(io::Error::new(ErrorKind::ResourceBusy, why))
     }
-}
-
-/// Whether both are of one file.
-pub fn is_same(one: &Metadata, other: &Metadata) -> bool {
-    one.dev() == other.dev() && one.ino() == other.ino()
-}
-
-/// A file that is not as it must be.
-pub(crate) fn wrong(why: &str) -> io::Error
-    ensures { error_kind result ≡ ErrorKind.InvalidInput }
-{
-    io::Error::new(ErrorKind::InvalidInput, why)
 }

@@ -2,14 +2,11 @@
 
 ghost use Rattle.std.specs.Prelude.{◌≡◌, ◌↔◌, [], length, None, IsSome, IfSome, IsTrue, IfOk};
 
-use crate::locks::wrong;
 use crate::remarks::Remarks;
 use ckd_image::{ImageStore, StoreFault};
 use dasd_jobs::NewFile;
-use file_journals::{
-    Notes, Part, SaveFault, Told, create_beside, folder_of, has_other_bytes, is_same, save_files,
-    sync_folder,
-};
+use file_journals::{Part, SaveFault, has_other_bytes, save_files};
+use file_places::{Notes, Told, create_beside, folder_of, is_same, sync_folder, wrong};
 use ghost_data::{Count, Trace};
 use std::cell::Cell;
 use std::fs::{self, File, Metadata, Permissions};

@@ -10,8 +10,9 @@ use crate::locks::{
 use crate::reading::{HostFile, read_some};
 use crate::remarks::Remarks;
 use crate::traces::{TraceFile, TraceSink};
-use dasd_jobs::{FileFault, ImageFiles, NewFile, SavePlan, Sources, Traces, Written};
-use file_journals::{Notes, SaveFault, Told, clear_folder, folder_of, whole_file};
+use dasd_jobs::{FileFault, ImageFiles, Journals, NewFile, SavePlan, Sources, Traces, Written};
+use file_journals::{SaveFault, recover_file, whole_file};
+use file_places::{Notes, Told, clear_folder, folder_of, wrong};
 use std::alloc::Global;
 use std::fs::File;
 use std::io::{BufWriter, ErrorKind};
@@ -305,5 +306,22 @@ impl<'a> Traces for HostFiles<'a> {
             }
         };
         BufWriter::new(alloc, output).map_err(|_| FileFault::OutOfMemory)
+    }
+}
+
+impl<'a> Journals for HostFiles<'a> {
+    fn recover(&mut self, path: &str, drops: bool) -> Result<(), FileFault> {
+        // it is locked as long as it is open
+        let done = match open_locked(self.host, &[], path, true) {
+            Ok((_, known)) if !drops && known.permissions().readonly() => {
+                Err(wrong("it may not be written"))
+            }
+            Ok((file, _)) => recover_file(self.remarks, path, file, drops),
+            Err(fault) => Err(fault),
+        };
+        match done {
+            Ok(()) => Ok(()),
+            Err(fault) => Err(self.remarks.refuse(path, &fault)),
+        }
     }
 }

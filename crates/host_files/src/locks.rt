@@ -5,7 +5,8 @@ ghost use Rattle.std.specs.IoError.{error_kind};
 
 use crate::drafts::{HostDraft, Old};
 use crate::remarks::Remarks;
-use file_journals::{Notes, home_of, is_same, open_target, whole_file};
+use file_journals::{open_target, whole_file};
+use file_places::{Notes, home_of, is_same, wrong};
 use std::alloc::Global;
 use std::fs::{File, Metadata, OpenOptions, TryLockError};
 use std::io::{Error, ErrorKind};
@@ -26,13 +27,6 @@ pub(crate) struct Locked {
     /// What was known of it before it was read.
     known: Metadata,
     path: String,
-}
-
-// A file that is not as it must be.
-pub(crate) fn wrong(why: &str) -> Error
-    ensures { error_kind result ≡ ErrorKind.InvalidInput }
-{
-    Error::new(ErrorKind::InvalidInput, why)
 }
 
 // A file that is in use.

@@ -5,7 +5,8 @@ ghost use Rattle.std.specs.Prelude.{◌≡◌, ◌≤◌, ◌+◌, length, slice
 use crate::remarks::Remarks;
 use ckd_image::{HEADER_LENGTH, StoreFault};
 use dasd_jobs::{OpenedFile, is_header};
-use file_journals::{Notes, WholeFile, whole_file};
+use file_journals::{WholeFile, whole_file};
+use file_places::Notes;
 use std::alloc::Global;
 use std::fs::File;
 use std::io;

@@ -5,7 +5,8 @@ ghost use Rattle.std.specs.IoError.{error_kind};
 ghost use Rattle.host_files.specs.Faults.{fault_of_kind};
 
 use dasd_jobs::FileFault;
-use file_journals::{Notes, ReadFiles};
+use file_journals::ReadFiles;
+use file_places::Notes;
 use std::alloc::Global;
 use std::cell::{Cell, RefCell};
 use std::fmt;

@@ -1,7 +1,7 @@
 //! What takes the lines of a trace.
 
 use crate::remarks::Remarks;
-use file_journals::Notes;
+use file_places::Notes;
 use std::fs::File;
 use std::io;
 use std::io::{ErrorKind, Write};

@@ -2,8 +2,8 @@
 
 ghost use Rattle.std.specs.Prelude.{◌≡◌};
 
+use crate::known::is_same;
 use crate::places::folder_of;
-use crate::saves::is_same;
 use std::fs::{self, File, OpenOptions, TryLockError};
 use std::io::{self, Error, ErrorKind, Write};
 use std::os::unix::fs::{MetadataExt, OpenOptionsExt, fchown};
@@ -66,7 +66,7 @@ fn is_held(host: &HostRuntime, file: &File, path: &str) -> io::Result<bool> {
 
 /// Makes a file with these bytes in the folder of a path, which nobody but this owner may read, if the host gives it to him, and has them
 /// on the disk; its hidden name.
-pub(crate) fn make_file(
+pub fn make_file(
     host: &HostRuntime,
     path: Path<'_>,
     owner: u32,

@@ -61,6 +61,14 @@ pub enum Told<'a> {
     TakenOver(&'a str, u32, u32),
     /// Its journal can't be read by this user.
     Locked(&'a str),
+    /// No save of it was cut off.
+    Whole(&'a str),
+    /// The journal is removed, and the file is as it was.
+    Dropped(&'a str, &'a str),
+    /// The file is half saved, and the journal fits it.
+    Needed(&'a str, &'a str),
+    /// The journal names no file that is this one.
+    Unnamed(&'a str, &'a str),
 }
 
 impl fmt::Display for Told<'_> {
@@ -81,7 +89,7 @@ impl fmt::Display for Told<'_> {
             ),
             Told::Changed(path, journal) => write!(
                 f,
-                "{path}: a save of it was cut off; without {journal}, which has what was saved, it is taken as it is now"
+                "{path}: a save of it was cut off; without {journal}, which has what was saved, it is taken as it is now (dasd recover {path} --drop)"
             ),
             Told::Lost(path, journal) => write!(
                 f,
@@ -89,11 +97,11 @@ impl fmt::Display for Told<'_> {
             ),
             Told::Other(path, journal) => write!(
                 f,
-                "{path}: {journal} is of another file, which this is a copy of or took the place of; if this one is whole, remove the journal"
+                "{path}: {journal} is of another file, which this is a copy of or took the place of: 'dasd recover {path}' completes it over this one if all of it fits, and 'dasd recover {path} --drop' removes it"
             ),
             Told::Missing(path, journal) => write!(
                 f,
-                "{path}: it is not there, and {journal} has what was saved of it: put it back"
+                "{path}: it is not there, and {journal} has what was saved of it: put it back, or give the save up by dasd recover --drop"
             ),
             Told::Unfit(journal) => write!(
                 f,
@@ -124,6 +132,19 @@ impl fmt::Display for Told<'_> {
             Told::Locked(journal) => write!(
                 f,
                 "{journal}: its owner's next run ends the save; or root gives it to the owner of the file (chown)"
+            ),
+            Told::Whole(path) => write!(f, "{path}: no save of it was cut off"),
+            Told::Dropped(path, journal) => write!(
+                f,
+                "{path}: it stays as it is; {journal} is removed"
+            ),
+            Told::Needed(path, journal) => write!(
+                f,
+                "{path}: it is half saved, and {journal} has the rest: 'dasd recover {path}' completes it"
+            ),
+            Told::Unnamed(path, journal) => write!(
+                f,
+                "{path}: {journal} is of files with other names; give it back the name under which it was saved"
             ),
         }
     }

@@ -54,7 +54,7 @@ pub fn sync_folder<N: Notes>(notes: &N, folder: Path<'_>) -> io::Result<()> {
 }
 
 /// The same, and whether the file system has such a sync.
-pub(crate) fn sync_names(host: &HostRuntime, folder: Path<'_>) -> io::Result<bool> {
+pub fn sync_names(host: &HostRuntime, folder: Path<'_>) -> io::Result<bool> {
     match File::open(host, folder)?.sync_all() {
         Ok(()) => Ok(true),
         Err(fault) => match fault.kind() {
@@ -66,7 +66,7 @@ pub(crate) fn sync_names(host: &HostRuntime, folder: Path<'_>) -> io::Result<boo
 
 /// The path of what is beside a file that lies here while it is saved: the journal, or what leads to that. None where no name has room
 /// for it.
-pub(crate) fn beside(host: &HostRuntime, home: Path<'_>) -> io::Result<Option<PathBuf>> {
+pub fn beside(host: &HostRuntime, home: Path<'_>) -> io::Result<Option<PathBuf>> {
     let name = format!(in host.alloc(); ".{}{JOURNAL}", name_of(home))?;
     if name.as_str().len() > LONGEST {
         return Ok(None);
@@ -75,12 +75,12 @@ pub(crate) fn beside(host: &HostRuntime, home: Path<'_>) -> io::Result<Option<Pa
 }
 
 /// The name at the end of a path.
-pub(crate) fn name_of(path: Path<'_>) -> &str {
+pub fn name_of(path: Path<'_>) -> &str {
     path.file_name().unwrap_or("")
 }
 
 /// Whether nothing is at a path.
-pub(crate) fn is_free(host: &HostRuntime, path: Path<'_>) -> io::Result<bool> {
+pub fn is_free(host: &HostRuntime, path: Path<'_>) -> io::Result<bool> {
     match fs::symlink_metadata(host, path) {
         Err(fault) if fault.kind() == ErrorKind::NotFound => Ok(true),
         Err(fault) => Err(fault),
@@ -93,11 +93,7 @@ pub(crate) fn is_free(host: &HostRuntime, path: Path<'_>) -> io::Result<bool> {
 /// # Errors
 ///
 /// The host can't say where the folders are, or there is no memory.
-pub(crate) fn from_folder(
-    host: &HostRuntime,
-    from: Path<'_>,
-    path: Path<'_>,
-) -> io::Result<String> {
+pub fn from_folder(host: &HostRuntime, from: Path<'_>, path: Path<'_>) -> io::Result<String> {
     let (here, there) = (folder_of(from), folder_of(path));
     let mut spelled = String::new(host.alloc());
     if here.as_str() != there.as_str() {
