@@ -8,6 +8,7 @@ ghost use Rattle.sha2.specs.Sha256.{sha256};
 
 use crate::hosts::OpenedFile;
 use crate::marks::{is_marked, put_mark, take_mark};
+use crate::new_bytes::FileChanges;
 use atomic_save::{Change, Journal};
 use file_places::{Notes, name_of};
 use sha2::{Digest, Sha256};
@@ -20,7 +21,7 @@ use std::os::unix::fs::FileExt;
 pub(crate) const BLOCK: usize = 4_096;
 
 /// How many bytes are read at once.
-const WINDOW: usize = 16 * BLOCK;
+pub(crate) const WINDOW: usize = 16 * BLOCK;
 
 /// What a disk writes whole.
 const SECTOR: usize = 512;
@@ -60,6 +61,8 @@ pub(crate) struct Changes {
     rest: Vec<Change>,
     /// The new first blocks.
     first: Vec<Change>,
+    /// What is known of the bytes of each file that stay.
+    digests: Vec<u8>,
     /// What is known of the old bytes of these changes.
     rest_sums: Vec<u8>,
     first_sums: Vec<u8>,
@@ -74,99 +77,34 @@ impl Changes {
             alloc,
             rest: Vec::new(alloc),
             first: Vec::new(alloc),
+            digests: Vec::new(alloc),
             rest_sums: Vec::new(alloc),
             first_sums: Vec::new(alloc),
         }
     }
 
-    /// Adds those of a file of this length by its draft.
-    pub(crate) fn add<N: Notes>(
-        &mut self,
-        it: &Looked<'_, N>,
-        draft: &Looked<'_, N>,
-        len: u64,
-    ) -> io::Result<()> {
-        let mut saved = vec![in self.alloc; 0; WINDOW]?;
-        let mut held = vec![in self.alloc; 0; WINDOW]?;
-        let before = self.rest.len();
-        let mut at = 0u64;
-        for _ in 0..u64::MAX {
-            let count = count_at(len, at, saved.len().min(held.len()));
-            if count == 0 {
-                break;
-            }
-            draft.read(&mut saved[..count], at)?;
-            it.read(&mut held[..count], at)?;
-            for (saved, held) in saved[..count]
-                .chunks(BLOCK)
-                .zip(held[..count].chunks(BLOCK))
-            {
-                if saved != held {
-                    self.add_block(it.place, at, saved, held)?;
-                }
-                at = at.saturating_add(saved.len() as u64);
-            }
-        }
-        if self.rest.len() != before {
-            self.add_first(it, draft, len)?;
-        }
-        Ok(())
-    }
-
-    // Adds a block to the change before it, or as a new one; of a file's first one only its place.
-    fn add_block(&mut self, place: usize, at: u64, saved: &[u8], held: &[u8]) -> io::Result<()> {
-        if at == 0 {
-            let bytes = Vec::new(self.alloc);
-            self.rest.push(Change {
-                file: place,
-                at,
-                bytes,
-            })?;
+    /// Adds those of the file of this number, the next one.
+    pub(crate) fn add(&mut self, file: usize, found: FileChanges) -> io::Result<()> {
+        self.digests.extend_from_slice(&found.digest.finalize())?;
+        if !found.is_changed {
             return Ok(());
         }
-        add_sums(&mut self.rest_sums, held)?;
-        if let Some(last) = self.rest.last_mut() {
-            if last.file == place && last.at.saturating_add(last.bytes.len() as u64) == at {
-                last.bytes.extend_from_slice(saved)?;
-                return Ok(());
-            }
+        for change in found.rest {
+            self.rest.push(Change { file, ..change })?;
         }
-        let bytes = Vec::from_slice(self.alloc, saved)?;
-        self.rest.push(Change {
-            file: place,
-            at,
-            bytes,
-        })?;
-        Ok(())
-    }
-
-    // Adds the first block of a file, which is written last.
-    fn add_first<N: Notes>(
-        &mut self,
-        it: &Looked<'_, N>,
-        draft: &Looked<'_, N>,
-        len: u64,
-    ) -> io::Result<()> {
-        let count = len.min(BLOCK as u64) as usize;
-        let mut bytes = vec![in self.alloc; 0; count]?;
-        it.read(&mut bytes, 0)?;
-        add_sums(&mut self.first_sums, &bytes)?;
-        draft.read(&mut bytes, 0)?;
+        self.rest_sums.extend_from_slice(&found.rest_sums)?;
+        add_sums(&mut self.first_sums, &found.old_first)?;
         self.first.push(Change {
-            file: it.place,
+            file,
             at: 0,
-            bytes,
+            bytes: found.new_first,
         })?;
         Ok(())
     }
 
     /// All of them in the order in which they are written, each file's mark first, and its own first block last; and what is known of the
     /// old bytes of these files.
-    pub(crate) fn in_order<N: Notes>(
-        self,
-        notes: &N,
-        files: &[OpenedFile],
-    ) -> io::Result<(Vec<Change>, Vec<u8>)> {
+    pub(crate) fn in_order(self, files: &[OpenedFile]) -> io::Result<(Vec<Change>, Vec<u8>)> {
         let mut all = Vec::new(self.alloc);
         for change in self.first.iter() {
             let mut bytes = Vec::from_slice(self.alloc, &change.bytes)?;
@@ -182,23 +120,12 @@ impl Changes {
             }
         }
         for change in self.rest {
-            if !change.bytes.is_empty() {
-                all.push(change)?;
-            }
+            all.push(change)?;
         }
         for change in self.first {
             all.push(change)?;
         }
-        let mut known = Vec::new(self.alloc);
-        for (place, it) in files.iter().enumerate() {
-            let it = Looked {
-                notes,
-                path: it.home.as_str(),
-                file: &it.file,
-                place,
-            };
-            known.extend_from_slice(&it.digest_of_rest(&all)?)?;
-        }
+        let mut known = self.digests;
         known.extend_from_slice(&self.rest_sums)?;
         known.extend_from_slice(&self.first_sums)?;
         Ok((all, known))
@@ -212,8 +139,8 @@ fn count_at(len: u64, at: u64, most: usize) -> usize
     len.saturating_sub(at).min(most as u64) as usize
 }
 
-// Adds the sums of each sector of these bytes.
-fn add_sums(sums: &mut Vec<u8>, bytes: &[u8]) -> io::Result<()> {
+/// Adds the sums of each sector of these bytes.
+pub(crate) fn add_sums(sums: &mut Vec<u8>, bytes: &[u8]) -> io::Result<()> {
     for sector in bytes.chunks(SECTOR) {
         sums.extend_from_slice(&sum_of(sector))?;
     }

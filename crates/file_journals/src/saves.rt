@@ -8,6 +8,7 @@ ghost use Rattle.file_journals.specs.Told.{TellsOf, Tells, Settles};
 
 use crate::changes::{Changes, Looked};
 use crate::hosts::{OpenedFile, SaveHost, id_of};
+use crate::new_bytes::NewBytes;
 use atomic_save::{Change, save};
 use file_places::{Notes, Told, beside, folder_of, is_free, is_same, wrong};
 use std::fs::{self, File, Metadata, OpenOptions};
@@ -27,7 +28,7 @@ pub enum SaveFault {
 }
 
 /// A file that is saved in its place.
-#[derive(Clone, Copy)]
+#[derive(Drop)]
 pub struct Part<'a> {
     /// Its path as it was given.
     pub given: &'a str,
@@ -35,8 +36,8 @@ pub struct Part<'a> {
     pub home: Path<'a>,
     /// The file.
     pub target: &'a File,
-    /// What is to be in it.
-    pub draft: &'a File,
+    /// What is to be in it, which a save takes.
+    pub new: Option<NewBytes>,
 }
 
 /// Saves these files in their places by `atomic_save`: all, or none.
@@ -44,7 +45,7 @@ pub struct Part<'a> {
 /// # Errors
 ///
 /// The place of the file for which the host refuses something, and what that leaves of all of them, which is told.
-pub fn save_files<N: Notes>(notes: &N, parts: &[Part<'_>]) -> Result<(), (usize, SaveFault)> {
+pub fn save_files<N: Notes>(notes: &N, parts: &mut [Part<'_>]) -> Result<(), (usize, SaveFault)> {
     let mut at = 0;
     let (mut host, changes) = match plan(notes, parts, &mut at) {
         Ok(planned) => planned,
@@ -55,7 +56,7 @@ pub fn save_files<N: Notes>(notes: &N, parts: &[Part<'_>]) -> Result<(), (usize,
     }
     let saved = save_all(&mut host, &changes);
     let saved = settle(notes, &host, saved, true);
-    for part in parts {
+    for part in parts.iter() {
         match &saved {
             Err((_, SaveFault::Begun(_))) => notes.tell(&Told::Begun(part.given)),
             Err((_, SaveFault::Saved(_))) => notes.tell(&Told::Saved(part.given)),
@@ -68,7 +69,7 @@ pub fn save_files<N: Notes>(notes: &N, parts: &[Part<'_>]) -> Result<(), (usize,
 // The host of a save of these files, and what that changes; meanwhile `at` is the file that is looked at.
 fn plan<'a, N: Notes>(
     notes: &'a N,
-    parts: &[Part<'_>],
+    parts: &mut [Part<'_>],
     at: &mut usize,
 ) -> io::Result<(SaveHost<'a>, Vec<Change>)>
     ensures { IfOk result (λ it. shown it.0.log.events ≡ None) }
@@ -76,25 +77,21 @@ fn plan<'a, N: Notes>(
     let host = notes.host();
     let mut files = Vec::new(host.alloc());
     let mut changes = Changes::new(host.alloc());
-    for (place, part) in parts.iter().enumerate() {
+    for (place, part) in parts.iter_mut().enumerate() {
         *at = place;
-        let file = open_part(host, part)?;
-        let target = Looked {
+        files.push(open_part(host, part)?)?;
+        let it = Looked {
             notes,
             path: part.given,
             file: part.target,
             place,
         };
-        let draft = Looked {
-            notes,
-            path: part.given,
-            file: part.draft,
-            place,
-        };
-        changes.add(&target, &draft, file.id.size)?;
-        files.push(file)?;
+        match part.new.take() {
+            Some(new) => changes.add(place, new.end(&it)?)?,
+            None => return Err(wrong("what is new of it is saved already")),
+        }
     }
-    let (changes, known) = changes.in_order(notes, &files)?;
+    let (changes, known) = changes.in_order(&files)?;
     let host = SaveHost::new(host, files, known, None)?;
     Ok((host, changes))
 }
@@ -102,9 +99,6 @@ fn plan<'a, N: Notes>(
 // What is known of a file that is to be saved, at whose side nothing is.
 fn open_part(host: &HostRuntime, part: &Part<'_>) -> io::Result<OpenedFile> {
     let known = part.target.metadata()?;
-    if known.len() != part.draft.metadata()?.len() {
-        return Err(wrong("its length has changed"));
-    }
     let Some(place) = beside(host, part.home)? else {
         return Err(wrong("its name leaves no room for that of a journal"));
     };

@@ -5,7 +5,7 @@ ghost use Rattle.std.specs.Prelude.{◌≡◌, ◌↔◌, [], length, None, IsSo
 use crate::remarks::Remarks;
 use ckd_image::{ImageStore, StoreFault};
 use dasd_jobs::NewFile;
-use file_journals::{Part, SaveFault, has_other_bytes, save_files};
+use file_journals::{NewBytes, Part, SaveFault, has_other_bytes, save_files};
 use file_places::{Notes, Told, create_beside, folder_of, is_same, sync_folder, wrong};
 use ghost_data::{Count, Trace};
 use std::cell::Cell;
@@ -36,14 +36,21 @@ pub(crate) struct Old {
     pub(crate) target: Option<File>,
 }
 
-/// A new file that is written beside the one that it replaces, under a name of its own, and then takes its place, or becomes the journal
-/// of one that keeps its place. Where that does not come about it is removed.
+/// Where new bytes go.
+#[derive(Drop)]
+enum Room {
+    /// Into a new file beside the old one, under a name of its own.
+    Beside(File, PathBuf),
+    /// Into the old file: until it is saved, what is new of it is kept.
+    Over(File, Cell<Option<NewBytes>>),
+}
+
+/// A new file, which takes the place of the old one, or new bytes of one that keeps its place. Where a new file does not get its name it is
+/// removed.
 pub struct HostDraft<'a> {
     host: &'a HostRuntime,
     remarks: &'a Remarks<'a>,
-    file: File,
-    /// Where it is written.
-    beside: PathBuf,
+    room: Room,
     /// The path as it was given.
     given: String,
     old: Option<Old>,
@@ -59,14 +66,13 @@ pub struct HostDraft<'a> {
 
 impl Drop for HostDraft<'_> {
     fn drop(self) {
-        if !self.is_put.get() {
-            let _ = fs::remove_file(self.host, self.beside.as_str());
+        if let (false, Room::Beside(_, beside)) = (self.is_put.get(), &self.room) {
+            let _ = fs::remove_file(self.host, beside.as_str());
         }
         let HostDraft {
             host: _,
             remarks: _,
-            file: _,
-            beside: _,
+            room: _,
             given: _,
             old: _,
             is_taken_over: _,
@@ -84,20 +90,16 @@ impl<'a> HostDraft<'a> {
         host: &'a HostRuntime,
         remarks: &'a Remarks<'a>,
         path: &str,
-        old: Option<Old>,
+        mut old: Option<Old>,
     ) -> io::Result<HostDraft<'a>>
         ensures { IfOk result (λ draft. draft.written.bytes ≡ []) }
     {
         let given = path.to_string(host.alloc())?;
-        let (file, beside) = match &old {
-            Some(old) => create_beside(host, old.path.as_path(), 0o600)?,
-            None => create_beside(host, Path::new(path), 0o666)?,
-        };
+        let room = room_for(host, path, &mut old)?;
         let mut draft = HostDraft {
             host,
             remarks,
-            file,
-            beside,
+            room,
             given,
             old,
             is_taken_over: false,
@@ -106,10 +108,8 @@ impl<'a> HostDraft<'a> {
             len: 0,
             is_put: Cell::new(false),
         };
-        if let Some(old) = &draft.old {
-            if old.target.is_none() {
-                draft.is_taken_over = !keep_owner(host, &draft.file, old)?;
-            }
+        if let (Some(old), Room::Beside(file, _)) = (&draft.old, &draft.room) {
+            draft.is_taken_over = !keep_owner(host, file, old)?;
         }
         Ok(draft)
     }
@@ -130,7 +130,7 @@ impl<'a> HostDraft<'a> {
 
     // Whether the old file keeps its place.
     fn keeps_place(&self) -> bool {
-        self.old.as_ref().is_some_and(|old| old.target.is_some())
+        matches!(self.room, Room::Over(..))
     }
 
     // Looks whether the old file is still there as it was read.
@@ -155,19 +155,24 @@ impl<'a> HostDraft<'a> {
         ensures { IfSome result (λ _. IsSome self.now.old) }
     {
         let old = self.old.as_ref()?;
+        let Room::Over(target, new) = &self.room else {
+            return None;
+        };
         Some(Part {
             given: self.given.as_str(),
             home: old.path.as_path(),
-            target: old.target.as_ref()?,
-            draft: &self.file,
+            target,
+            new: new.replace(None),
         })
     }
 
     // Gives the old file a hidden name, from which it is put back where another one of the save can't be replaced. A file system that
     // has no second names does without.
     fn keep_old(&self) -> Option<String> {
-        let (old, beside) = (self.old.as_ref()?, self.beside.as_str());
-        let name = format!(in self.host.alloc(); "{beside}000").ok()?;
+        let (Some(old), Room::Beside(_, beside)) = (&self.old, &self.room) else {
+            return None;
+        };
+        let name = format!(in self.host.alloc(); "{}000", beside.as_str()).ok()?;
         fs::hard_link(self.host, old.path.as_str(), name.as_str()).ok()?;
         Some(name)
     }
@@ -186,24 +191,26 @@ impl<'a> HostDraft<'a> {
 
     // Gives the file its name, which the old one has, if there is one; its folder is synced later.
     fn take_place(&self) -> io::Result<()> {
-        let from = self.beside.as_str();
+        let Room::Beside(file, from) = &self.room else {
+            return Err(wrong("it keeps its place"));
+        };
         match &self.old {
-            Some(old) => fs::rename(self.host, from, old.path.as_str())?,
-            None => name_new(self.host, from, self.given.as_str())?,
+            Some(old) => fs::rename(self.host, from.as_str(), old.path.as_str())?,
+            None => name_new(self.host, from.as_str(), self.given.as_str())?,
         }
         self.is_put.set(true);
         if self.is_taken_over {
-            self.note_owners();
+            self.note_owners(file);
         }
         Ok(())
     }
 
     // Notes whose the old file was, and whose the new one is.
-    fn note_owners(&self) {
+    fn note_owners(&self, file: &File) {
         let Some(old) = &self.old else {
             return;
         };
-        if let Ok(new) = self.file.metadata() {
+        if let Ok(new) = file.metadata() {
             let (before, now) = (old.known.uid(), new.uid());
             self.remarks
                 .note(&Told::TakenOver(self.given.as_str(), before, now));
@@ -250,7 +257,7 @@ fn save_in_place<'p>(
             return Err((it.path, SaveFault::Kept(fault)));
         }
     }
-    match save_files(remarks, &parts) {
+    match save_files(remarks, &mut parts) {
         Ok(()) => Ok(()),
         Err((place, fault)) => Err((new.get(place).map_or("", |it| it.path), fault)),
     }
@@ -299,8 +306,10 @@ fn replace_all<'p>(
     new: &[NewFile<'p, HostDraft>],
 ) -> Result<(), (&'p str, SaveFault)> {
     for it in new {
-        if let Err(fault) = it.draft.file.sync_all() {
-            return Err((it.path, SaveFault::Kept(fault)));
+        if let Room::Beside(file, _) = &it.draft.room {
+            if let Err(fault) = file.sync_all() {
+                return Err((it.path, SaveFault::Kept(fault)));
+            }
         }
     }
     take_places(remarks, new)?;
@@ -340,7 +349,7 @@ impl ImageStore for HostDraft<'_> {
         let is_end = at == self.len;
         match end {
             Some(end)
-                if is_end && append(&mut self.file, self.remarks, self.given.as_str(), bytes) => {
+                if is_end && put_next(&mut self.room, self.remarks, self.given.as_str(), bytes) => {
                 self.written = self.written.and(bytes);
                 self.len = end;
                 Ok(())
@@ -353,13 +362,38 @@ impl ImageStore for HostDraft<'_> {
     }
 }
 
-// Writes bytes at the end of a new file, and says whether that is done; if not, it is remarked why.
-fn append(file: &mut File, remarks: &Remarks, path: &str, bytes: &[u8]) -> bool {
-    match file.write_all(bytes) {
-        Ok(()) => true,
-        Err(fault) => {
-            remarks.note_fault(path, &fault);
-            false
+// Where the bytes of this path go; an old file that keeps its place gives itself.
+fn room_for(host: &HostRuntime, path: &str, old: &mut Option<Old>) -> io::Result<Room>
+    ensures { (old.new ≡ None) ↔ (old.old ≡ None) }
+{
+    let Some(old) = old else {
+        let (file, beside) = create_beside(host, Path::new(path), 0o666)?;
+        return Ok(Room::Beside(file, beside));
+    };
+    if let Some(file) = old.target.take() {
+        let new = NewBytes::new(host.alloc());
+        return Ok(Room::Over(file, Cell::new(Some(new))));
+    }
+    let (file, beside) = create_beside(host, old.path.as_path(), 0o600)?;
+    Ok(Room::Beside(file, beside))
+}
+
+// Puts the next bytes there, and says whether that is done; if not, it is remarked why.
+fn put_next(room: &mut Room, remarks: &Remarks, path: &str, bytes: &[u8]) -> bool {
+    match room {
+        Room::Beside(file, _) => match file.write_all(bytes) {
+            Ok(()) => true,
+            Err(fault) => {
+                remarks.note_fault(path, &fault);
+                false
+            }
+        },
+        Room::Over(file, new) => {
+            if let Some(mut found) = new.replace(None) {
+                found.add(remarks, path, file, bytes);
+                let _ = new.replace(Some(found));
+            }
+            true
         }
     }
 }
