@@ -6,7 +6,7 @@ ghost use Rattle.std.specs.IoError.{error_kind};
 use crate::drafts::{HostDraft, Old};
 use crate::remarks::Remarks;
 use file_journals::{open_target, whole_file};
-use file_places::{Notes, home_of, is_same, wrong};
+use file_places::{Notes, create_beside, home_of, is_same, wrong};
 use std::alloc::Global;
 use std::fs::{File, Metadata, OpenOptions, TryLockError};
 use std::io::{Error, ErrorKind};
@@ -212,12 +212,16 @@ fn old_at(host: &HostRuntime, path: PathBuf, known: Metadata, in_place: bool) ->
     })
 }
 
-/// Begins what would replace a file, or be written over it, and takes it back.
+/// Begins what would replace a file, or the journal beside one that is written over, and takes it back.
 pub(crate) fn try_to_write(remarks: &Remarks, path: &str, in_place: bool) -> io::Result<()> {
     let host = remarks.host();
     let known = fs::metadata(host, path)?;
     let target = target_of(host, path, in_place)?;
     let old = old_at(host, target, known, in_place)?;
+    if in_place {
+        let (_journal, beside) = create_beside(host, old.path.as_path(), 0o600)?;
+        return fs::remove_file(host, beside.as_path());
+    }
     let _tried = HostDraft::begin(host, remarks, path, Some(old))?;
     Ok(())
 }
