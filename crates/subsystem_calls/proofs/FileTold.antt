@@ -3,7 +3,8 @@ use Rattle.std.proofs.Common.{◌≡◌, ℤ, ℕ, Some, subst}
 use Rattle.ckd_image.specs.Image.{ImageState, IsFileAt}
 use Rattle.dasd_files.specs.Files.{FileState, IsFile}
 use Rattle.dasd_files.specs.declared.tracks.ShownTrack.{ShownTrack}
-use Rattle.subsystem_calls.specs.Saving.{TellsNext, TellsNextAmong}
+use Rattle.dasd_files.specs.Tracks.{TellsNext}
+use Rattle.subsystem_calls.specs.Saving.{TellsNextAmong}
 
 -- its slots are as long as the image's geometry says
 pub next_among : (image : ImageState) (place since : ℕ) (code : ℤ) (before shown : ShownTrack) (f : FileState) (size : ℕ)
