@@ -4,7 +4,7 @@
 mod faults;
 mod terminal;
 
-ghost use Rattle.std.specs.Prelude.{◌≡◌};
+ghost use Rattle.std.specs.Prelude.{◌≡◌, OnOk};
 ghost use Rattle.std.specs.Process.{exit_status};
 ghost use Rattle.dasd_cmd.specs.Ends.{ended_status};
 
@@ -162,7 +162,9 @@ fn print_help(rt: &HostRuntime, text: &str) {
 }
 
 // No command succeeds whose new files may lose their names.
-fn settled(files: &HostFiles, ended: Result<Ending, ProgramFault>) -> Result<Ending, ProgramFault> {
+fn settled(files: &HostFiles, ended: Result<Ending, ProgramFault>) -> Result<Ending, ProgramFault>
+    ensures { OnOk result (result ≡ ended) }
+{
     match ended {
         Ok(_) if files.is_unsettled() => Err(ProgramFault::Job(JobFault::Write)),
         ended => ended,
@@ -181,7 +183,9 @@ fn say_more(
     writer: &mut Counted<BufWriter<HostOutput>>,
     words: &[&str],
     ended: Result<Ending, ProgramFault>,
-) -> Result<Ending, ProgramFault> {
+) -> Result<Ending, ProgramFault>
+    ensures { OnOk result (result ≡ ended) }
+{
     if let Err(fault) = &ended {
         note_rule(alloc, words, remarks, fault);
     }

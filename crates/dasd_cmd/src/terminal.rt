@@ -1,6 +1,8 @@
 //! The terminal of the host, and its standard output.
 
-ghost use Rattle.std.specs.Prelude.{◌≡◌, false};
+ghost use Rattle.std.specs.Prelude.{◌≡◌, ◌||◌, false};
+ghost use Rattle.std.specs.IoError.{error_kind};
+ghost use Rattle.dasd_cmd.specs.Ends.{is_broken_pipe};
 ghost use Rattle.std.specs.Io.{WritesAtMost};
 
 use dasd_jobs::{Progress, Stage};
@@ -60,7 +62,9 @@ pub(crate) struct HostOutput<'a> {
 
 impl<'a> HostOutput<'a> {
     /// The output of this host.
-    pub(crate) fn new(host: &'a HostRuntime, remarks: &'a Remarks<'a>) -> HostOutput<'a> {
+    pub(crate) fn new(host: &'a HostRuntime, remarks: &'a Remarks<'a>) -> HostOutput<'a>
+        ensures { (result.is_broken ≡ false) × (result.is_told ≡ false) }
+    {
         HostOutput {
             host,
             remarks,
@@ -70,17 +74,23 @@ impl<'a> HostOutput<'a> {
     }
 
     /// Whether a write met a pipe that nobody reads any more.
-    pub(crate) fn is_broken(&self) -> bool {
+    pub(crate) fn is_broken(&self) -> bool
+        ensures { result ≡ self.now.is_broken }
+    {
         self.is_broken
     }
 
     /// Whether a write failed.
-    pub(crate) fn has_failed(&self) -> bool {
+    pub(crate) fn has_failed(&self) -> bool
+        ensures { result ≡ (self.now.is_broken || self.now.is_told) }
+    {
         self.is_broken || self.is_told
     }
 
     // Keeps what a write that failed says of the output.
-    fn note(&mut self, fault: &io::Error) {
+    fn note(&mut self, fault: &io::Error)
+        ensures { self.new.is_broken ≡ (self.old.is_broken || is_broken_pipe (error_kind fault.now)) }
+    {
         if fault.kind() == ErrorKind::BrokenPipe {
             self.is_broken = true;
         } else if fault.kind() != ErrorKind::Interrupted && !self.is_told {
@@ -115,7 +125,9 @@ pub(crate) struct HostInput<'a, R> {
 
 impl<'a, R: Read> HostInput<'a, R> {
     /// The input that this reader reads.
-    pub(crate) fn new(reader: R, remarks: &'a Remarks<'a>) -> HostInput<'a, R> {
+    pub(crate) fn new(reader: R, remarks: &'a Remarks<'a>) -> HostInput<'a, R>
+        ensures { (result.reader ≡ reader) × (result.given ≡ 0) }
+    {
         HostInput {
             reader,
             remarks,

@@ -14,7 +14,6 @@ use crate::old_journals::{complete_old, drop_old};
 use crate::recovery::{check_fit, check_released, complete, home_in, open_all};
 use atomic_save::{Host, HostFault, Journal, JournalFile};
 use file_places::{Notes, Told, beside, folder_of, home_of, is_same, sync_folder, wrong};
-use std::fmt;
 use std::fs::{self, File, Metadata};
 use std::io::{self, Error, ErrorKind};
 use std::os::unix::fs::MetadataExt;
@@ -28,16 +27,6 @@ impl<N: Notes> Notes for Quiet<'_, N> {
     fn host(&self) -> &HostRuntime {
         self.0.host()
     }
-
-    fn note<T: fmt::Display>(&self, _remark: &T) {}
-
-    fn note_once<T: fmt::Display>(&self, _remark: &T) {}
-
-    fn tell<T: fmt::Display>(&self, _remark: &T) {}
-
-    fn note_fault(&self, _path: &str, _fault: &Error) {}
-
-    fn note_reading(&self, _path: &str, _at: u64, _fault: &Error) {}
 }
 
 /// Completes the save of a file that was opened by a path, or drops its journal.
@@ -60,11 +49,16 @@ fn complete_save<N: Notes>(notes: &N, path: &str, file: File) -> io::Result<()> 
     let (read, place) = match find_beside(notes, path, &file, &known)? {
         Beside::Journal(found) => split(found),
         Beside::Others(read) => (read, None),
-        Beside::Idle(marker, _) => {
-            let _ = fs::remove_file(notes.host(), marker.as_path());
-            return complete_without(notes, path, &file);
+        beside => {
+            if let Beside::Idle(marker, _) = beside {
+                let _ = fs::remove_file(notes.host(), marker.as_path());
+            }
+            check_released(notes, path, &file)?;
+            if !complete_old(notes, path, &file)? {
+                notes.tell(&Told::Whole(path));
+            }
+            return Ok(());
         }
-        Beside::Nothing => return complete_without(notes, path, &file),
     };
     let found = take_over(notes, path, read, place, &known)?;
     check_fit(notes, path, &found, &file, found.place)?;
@@ -72,15 +66,6 @@ fn complete_save<N: Notes>(notes: &N, path: &str, file: File) -> io::Result<()> 
         Some(files) => complete(notes, path, &found, files),
         None => Err(Error::new(ErrorKind::PermissionDenied, UNWRITABLE)),
     }
-}
-
-// Completes a save of version 1.1.0, or says that there is none.
-fn complete_without<N: Notes>(notes: &N, path: &str, file: &File) -> io::Result<()> {
-    check_released(notes, path, file)?;
-    if !complete_old(notes, path, file)? {
-        notes.tell(&Told::Whole(path));
-    }
-    Ok(())
 }
 
 // A journal that was found for a file, and the file's number in it.
@@ -325,7 +310,6 @@ fn retire<N: Notes>(notes: &N, path: &str, read: &ReadJournal, file: File) -> io
     }
 }
 
-#[tactic(auto, using(crate::proofs::Dropping::gone))]
 // Removes a journal for good, and does nothing else.
 fn drop_alone(host: &mut SaveHost<'_>) -> Result<(), HostFault>
     ensures drops { OnlyDrops host.old.log.events host.new.log.events }

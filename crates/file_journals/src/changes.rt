@@ -3,7 +3,7 @@
 //! What a journal has beside the changes are, for each file, the SHA-256 of the bytes that stay, and for each 512 bytes that are changed
 //! the beginning of that of the old ones. They only say whether another program wrote the file since.
 
-ghost use Rattle.std.specs.Prelude.{◌≡◌, ◌≤◌, [], length, take};
+ghost use Rattle.std.specs.Prelude.{◌≡◌, ◌≤◌, [], false, length, take};
 ghost use Rattle.sha2.specs.Sha256.{sha256};
 
 use crate::hosts::OpenedFile;
@@ -84,7 +84,9 @@ impl Changes {
     }
 
     /// Adds those of the file of this number, the next one.
-    pub(crate) fn add(&mut self, file: usize, found: FileChanges) -> io::Result<()> {
+    pub(crate) fn add(&mut self, file: usize, found: FileChanges) -> io::Result<()>
+        ensures { found.is_changed ≡ false → (self.new.rest ≡ self.old.rest) × (self.new.first ≡ self.old.first) }
+    {
         self.digests.extend_from_slice(&found.digest.finalize())?;
         if !found.is_changed {
             return Ok(());

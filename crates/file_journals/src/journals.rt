@@ -1,11 +1,12 @@
 //! Journals that are found: beside a file by its name, or where a marker or a mark leads.
 
-ghost use Rattle.std.specs.Prelude.{◌≡◌, ◌≢◌};
+ghost use Rattle.std.specs.Prelude.{◌≡◌, ◌≢◌, ◌<◌, length, IfOk, IfSome};
 ghost use Rattle.std.specs.IoError.{error_kind};
+ghost use Rattle.file_journals.specs.Placed.{IsPlaced};
 
 use crate::hosts::{LEADS, id_of};
 use crate::marks::Mark;
-use atomic_save::{FileId, Journal};
+use atomic_save::{FileId, Journal, JournalFile};
 use file_places::{Notes, Told, beside, folder_of, home_of, is_same, wrong};
 use journal_text::{JournalFault, read_journal};
 use std::fs::{self, File, Metadata};
@@ -73,7 +74,9 @@ pub(crate) fn look_beside<N: Notes>(
     path: &str,
     file: &File,
     known: &Metadata,
-) -> io::Result<Beside> {
+) -> io::Result<Beside>
+    ensures { IfOk result IsPlaced }
+{
     match find_beside(notes, path, file, known)? {
         Beside::Others(it) => {
             notes.tell(&Told::Other(path, it.path.as_str()));
@@ -93,7 +96,9 @@ pub(crate) fn find_beside<N: Notes>(
     path: &str,
     file: &File,
     known: &Metadata,
-) -> io::Result<Beside> {
+) -> io::Result<Beside>
+    ensures { IfOk result IsPlaced }
+{
     let home = home_of(notes.host(), path)?;
     let named = match beside(notes.host(), home.as_path())? {
         Some(place) => look_at(notes, place, known)?,
@@ -134,7 +139,9 @@ pub(crate) fn find_beside<N: Notes>(
 /// # Errors
 ///
 /// It is not taken for a journal, which is told, or the host refuses something.
-pub(crate) fn look_at<N: Notes>(notes: &N, place: PathBuf, of: &Metadata) -> io::Result<Beside> {
+pub(crate) fn look_at<N: Notes>(notes: &N, place: PathBuf, of: &Metadata) -> io::Result<Beside>
+    ensures { IfOk result IsPlaced }
+{
     let Some(text) = text_at(notes, place, of)? else {
         return Ok(Beside::Nothing);
     };
@@ -186,7 +193,9 @@ fn read_text(host: &HostRuntime, path: Path<'_>, of: &Metadata) -> io::Result<(M
 }
 
 // The journal of a file, by its bytes.
-fn take<N: Notes>(notes: &N, text: Text, of: &Metadata) -> io::Result<Beside> {
+fn take<N: Notes>(notes: &N, text: Text, of: &Metadata) -> io::Result<Beside>
+    ensures { IfOk result IsPlaced }
+{
     let Text {
         path: place,
         known,
@@ -212,17 +221,16 @@ fn take<N: Notes>(notes: &N, text: Text, of: &Metadata) -> io::Result<Beside> {
 }
 
 /// The number of a file in a journal that names it once.
-pub(crate) fn place_in(journal: &Journal, id: &FileId) -> Option<usize> {
-    let mut found = None;
-    for (place, it) in journal.files.iter().enumerate() {
-        if it.id.device == id.device && it.id.inode == id.inode {
-            if found.is_some() || it.id != *id {
-                return None;
-            }
-            found = Some(place);
-        }
+pub(crate) fn place_in(journal: &Journal, id: &FileId) -> Option<usize>
+    ensures { IfSome result (λ place. place < length journal.now.files.items) }
+{
+    let is_it = |it: &JournalFile| it.id.device == id.device && it.id.inode == id.inode;
+    let place = journal.files.iter().position(is_it)?;
+    let (named, others) = journal.files[place..].split_first()?;
+    if named.id != *id || others.iter().any(is_it) {
+        return None;
     }
-    found
+    Some(place)
 }
 
 // What a journal that is not read is to its file.

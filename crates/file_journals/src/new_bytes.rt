@@ -1,5 +1,7 @@
 //! What is new of a file that keeps its place, found as its bytes come.
 
+ghost use Rattle.std.specs.Prelude.{◌≡◌, ◌||◌, [], None, not, bytes_eq, OnOk};
+
 use crate::changes::{BLOCK, Looked, WINDOW, add_sums};
 use atomic_save::Change;
 use file_places::{Notes, wrong};
@@ -72,7 +74,9 @@ impl NewBytes {
     }
 
     /// What they change, after the last one.
-    pub(crate) fn end<N: Notes>(mut self, it: &Looked<'_, N>) -> io::Result<FileChanges> {
+    pub(crate) fn end<N: Notes>(mut self, it: &Looked<'_, N>) -> io::Result<FileChanges>
+        ensures { OnOk result (self.fault ≡ None) }
+    {
         if let Some(fault) = self.fault {
             return Err(fault);
         }
@@ -84,27 +88,28 @@ impl NewBytes {
         Ok(self.found)
     }
 
+    // Has bytes wait, and compares them where they are enough.
     fn take<N: Notes>(&mut self, it: &Looked<'_, N>, bytes: &[u8]) -> io::Result<()> {
-        let room = WINDOW.saturating_sub(self.waiting.len());
-        let (head, tail) = bytes.split_at(room.min(bytes.len()));
-        self.wait(it, head)?;
-        for piece in tail.chunks(WINDOW) {
-            self.wait(it, piece)?;
-        }
-        Ok(())
-    }
-
-    // Has bytes wait until they are compared.
-    fn wait<N: Notes>(&mut self, it: &Looked<'_, N>, bytes: &[u8]) -> io::Result<()> {
-        self.waiting.extend_from_slice(bytes)?;
-        if self.waiting.len() >= WINDOW {
-            self.compare(it)?;
+        let mut rest = bytes;
+        for _ in 0..usize::MAX {
+            if rest.is_empty() {
+                break;
+            }
+            let room = WINDOW.saturating_sub(self.waiting.len()).min(rest.len());
+            let (head, tail) = rest.split_at(room);
+            self.waiting.extend_from_slice(head)?;
+            if self.waiting.len() >= WINDOW {
+                self.compare(it)?;
+            }
+            rest = tail;
         }
         Ok(())
     }
 
     // Compares those that wait with the file's.
-    fn compare<N: Notes>(&mut self, it: &Looked<'_, N>) -> io::Result<()> {
+    fn compare<N: Notes>(&mut self, it: &Looked<'_, N>) -> io::Result<()>
+        ensures { OnOk result (self.new.waiting.items ≡ []) }
+    {
         let mut held = vec![in self.alloc; 0; self.waiting.len()]?;
         it.read(&mut held, self.at)?;
         for (new, old) in self.waiting.chunks(BLOCK).zip(held.chunks(BLOCK)) {
@@ -118,7 +123,9 @@ impl NewBytes {
 
 impl FileChanges {
     // Adds a block: to the change before it, or as a new one; or to the digest, if it stays.
-    fn add(&mut self, at: u64, new: &[u8], old: &[u8]) -> io::Result<()> {
+    fn add(&mut self, at: u64, new: &[u8], old: &[u8]) -> io::Result<()>
+        ensures { OnOk result (self.new.is_changed ≡ (self.old.is_changed || not (bytes_eq new.now old.now))) }
+    {
         let stays = new == old;
         if !stays {
             self.is_changed = true;

@@ -1,7 +1,8 @@
 //! Journals of version 1.1.0, whose names have the number of their files: they begin with what is saved, and for each byte of that have the
 //! bits by which what the file held differs from it.
 
-ghost use Rattle.std.specs.Prelude.{◌≤◌};
+ghost use Rattle.std.specs.Prelude.{◌≡◌, ◌≤◌, IfOk, IfSome};
+ghost use Rattle.std.specs.Fs.{metadata_len};
 
 use crate::bytes::are_either;
 use crate::changes::Looked;
@@ -113,7 +114,9 @@ fn find<'a, N: Notes>(
     notes: &'a N,
     path: &'a str,
     known: &Metadata,
-) -> io::Result<Option<OldJournal<'a, N>>> {
+) -> io::Result<Option<OldJournal<'a, N>>>
+    ensures { IfOk result (λ found. IfSome found (λ it. it.len ≡ metadata_len known.now)) }
+{
     let host = notes.host();
     let home = home_of(host, path)?;
     let name = format!(in host.alloc(); ".dasd+{}", known.ino())?;

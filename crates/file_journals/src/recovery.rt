@@ -1,6 +1,7 @@
 //! Saves that were cut off: they are completed, or read through their journals.
 
 ghost use Rattle.std.specs.Prelude.{◌≡◌, ◌-◌, length, slice_index_or, Some, IfErr, OnOk};
+ghost use Rattle.std.specs.IoError.{error_kind};
 ghost use Rattle.atomic_save.specs.Changes.{notes};
 ghost use Rattle.atomic_save.specs.Calls.{shown};
 ghost use Rattle.atomic_save.specs.Saves.{SafeThroughout, SameThroughout, SavedFor, NoJournal};
@@ -125,7 +126,9 @@ pub fn whole_file<N: Notes>(
 /// # Errors
 ///
 /// It was, which is told.
-pub(crate) fn check_released<N: Notes>(notes: &N, path: &str, file: &File) -> io::Result<()> {
+pub(crate) fn check_released<N: Notes>(notes: &N, path: &str, file: &File) -> io::Result<()>
+    ensures { IfErr result (λ fault. error_kind fault ≡ ErrorKind.InvalidInput) }
+{
     let mut first = [0; 8];
     let is_read = file.read_exact_at(&mut first, 0).is_ok();
     if is_read && (first == *b"dasd+cut" || first == *b"dasd+all") {

@@ -3,25 +3,25 @@
 use std::fmt;
 use std::io::Error;
 
-/// Takes what is told of files, a line each.
+/// Takes what is told of files, a line each; or nothing of it.
 pub trait Notes {
     /// The host that has the files.
     fn host(&self) -> &HostRuntime;
 
     /// One line more, for those who ask for more.
-    fn note<T: fmt::Display>(&self, remark: &T);
+    fn note<T: fmt::Display>(&self, _remark: &T) {}
 
     /// The same, unless it was noted before.
-    fn note_once<T: fmt::Display>(&self, remark: &T);
+    fn note_once<T: fmt::Display>(&self, _remark: &T) {}
 
     /// One line more, for everybody.
-    fn tell<T: fmt::Display>(&self, remark: &T);
+    fn tell<T: fmt::Display>(&self, _remark: &T) {}
 
     /// Why the host refused something of a file.
-    fn note_fault(&self, path: &str, fault: &Error);
+    fn note_fault(&self, _path: &str, _fault: &Error) {}
 
     /// Why the bytes of a file from a place on could not be read.
-    fn note_reading(&self, path: &str, at: u64, fault: &Error);
+    fn note_reading(&self, _path: &str, _at: u64, _fault: &Error) {}
 }
 
 /// What became of a file whose save was cut off: its path, and that of its journal.

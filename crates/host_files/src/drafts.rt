@@ -128,11 +128,6 @@ impl<'a> HostDraft<'a> {
         self.old.is_none()
     }
 
-    // Whether the old file keeps its place.
-    fn keeps_place(&self) -> bool {
-        matches!(self.room, Room::Over(..))
-    }
-
     // Looks whether the old file is still there as it was read.
     fn look(&self, path: &str) -> io::Result<()> {
         if self.given.as_str() != path {
@@ -233,7 +228,7 @@ pub(crate) fn put_drafts<'p>(
             return Err((it.path, SaveFault::Kept(fault)));
         }
     }
-    if new.iter().any(|it| it.draft.keeps_place()) {
+    if new.iter().any(|it| matches!(it.draft.room, Room::Over(..))) {
         save_in_place(remarks, new)
     } else {
         replace_all(remarks, new)
@@ -459,7 +454,9 @@ pub(crate) fn note_folder<N: Notes>(notes: &N, unsettled: &mut Vec<String>, path
 }
 
 /// Syncs the folders that were noted, and says whether that is done.
-pub(crate) fn sync_folders<N: Notes>(notes: &N, unsettled: &mut Vec<String>) -> bool {
+pub(crate) fn sync_folders<N: Notes>(notes: &N, unsettled: &mut Vec<String>) -> bool
+    ensures { unsettled.new.items ≡ [] }
+{
     let mut done = true;
     for folder in unsettled.iter() {
         if !is_synced(notes, folder.as_str()) {
