@@ -15,7 +15,7 @@ _dasd() {
     local word=${COMP_WORDS[COMP_CWORD]} before=${COMP_WORDS[COMP_CWORD - 1]} command=${COMP_WORDS[1]}
     COMPREPLY=()
     if [ "$COMP_CWORD" -eq 1 ]; then
-        _dasd_words format list check dump compare hash vtoc extract load rename delete relabel explain assemble disassemble run help --verbose -h --help -V --version
+        _dasd_words format list check dump compare hash vtoc extract load rename delete relabel recover explain assemble disassemble run help --verbose -h --help -V --version
         return
     fi
     case $command:$before in
@@ -111,7 +111,7 @@ _dasd() {
     esac
     case $command in
     help)
-        [ "$COMP_CWORD" -eq 2 ] && _dasd_words format list check dump compare hash vtoc extract load rename delete relabel explain assemble disassemble run help
+        [ "$COMP_CWORD" -eq 2 ] && _dasd_words format list check dump compare hash vtoc extract load rename delete relabel recover explain assemble disassemble run help
         ;;
     format)
         if [[ $word == -* ]]; then _dasd_words --model --cylinders --label --owner --vtoc --vtoc-at --no-replace --verbose -h --help; return; fi
@@ -159,6 +159,10 @@ _dasd() {
         ;;
     relabel)
         if [[ $word == -* ]]; then _dasd_words --label --owner --replace --verbose -h --help; return; fi
+        _dasd_files
+        ;;
+    recover)
+        if [[ $word == -* ]]; then _dasd_words --drop --verbose -h --help; return; fi
         _dasd_files
         ;;
     explain)
