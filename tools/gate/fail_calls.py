@@ -78,15 +78,16 @@ class Command:
     name: str
     words: list[str]
     given: bytes = b""  # on standard input
+    begun: str = ""  # the call at which a run over one.ckd is killed before
 
     def read_faults(self) -> tuple[str, ...]:
         """What a fault of a read is called."""
-        saves = self.words[0] in ("run", *CHANGES) and "--replace" not in self.words or self.words[0] == "format"
+        saves = self.words[0] in ("run", *CHANGES) and "--replace" not in self.words or self.words[0] in ("format", "recover")
         return READ_FAULTS + SAVE_FAULTS if saves else READ_FAULTS
 
     def signals(self) -> list[str]:
         """The signals by which it is ended at each call."""
-        writes = self.words[0] in ("format", "run", *CHANGES) or "--to" in self.words or "--all" in self.words
+        writes = self.words[0] in ("format", "run", "recover", *CHANGES) or "--to" in self.words or "--all" in self.words
         return SIGNALS if writes else SIGNALS[:1]
 
 
@@ -133,6 +134,8 @@ COMMANDS = [
     Command("load --member", ["load", "pack.ckd", "SYS1.MACLIB", "--member", "NEW", "--from", "cards"]),
     Command("load --all", ["load", "--all", "in", "--text", "pack.ckd"]),
     Command("relabel", ["relabel", "pack.ckd", "--label", "ABC124", "--owner", "SIXAMBRA"]),
+    Command("recover", ["recover", "one.ckd"], begun="write:signal=KILL:when=2"),
+    Command("recover --drop", ["recover", "--drop", "one.ckd"], begun="fsync:signal=KILL"),
     Command("explain", ["explain", "csw", "00000428", "0E000320"]),
     Command("assemble", ["assemble"], b" ORG X'48'\n DC A(START)\nSTART TIC START\n SIO 190\n"),
     Command("assemble with a file", ["assemble"], b" LOAD C'core'\n SHOW 0 4\n"),
@@ -168,6 +171,14 @@ class Failure(NamedTuple):
     def is_killed(self) -> bool:
         """Whether the program is ended there."""
         return self.how.startswith(KILLED)
+
+
+def cut_off(dasd: Path, folder: Path, begun: str) -> None:
+    """Has a run that saves one.ckd killed at a call, if one is given."""
+    if begun:
+        words = ["strace", "--quiet=all", "-o", "/dev/null", "-P", "one.ckd", "-e", f"inject={begun}", str(dasd), "run", "90=one.ckd"]
+        done = subprocess.run(words, cwd=folder, input=deck_for("190"), capture_output=True, timeout=60, check=False)
+        assert done.returncode and (folder / f".one.ckd{JOURNAL}").exists(), done.stderr
 
 
 def fill(folder: Path) -> None:
@@ -268,6 +279,7 @@ def play(dasd: Path, command: Command, tracing: list[str]) -> Came:
     with tempfile.TemporaryDirectory(prefix="fail_calls-") as room:
         folder = Path(room)
         fill(folder)
+        cut_off(dasd, folder, command.begun)
         words = ["strace", "-qq", *tracing, str(dasd), *command.words, "--verbose"]
         done = subprocess.run(words, cwd=folder, input=command.given, capture_output=True, timeout=60, check=False)
         stays = done.returncode == 0 and any(map(is_journal, folder.iterdir()))
@@ -275,11 +287,12 @@ def play(dasd: Path, command: Command, tracing: list[str]) -> Came:
         return Came(done.returncode, done.stdout, done.stderr, files_in(folder), kept_drafts(dasd, folder), unread)
 
 
-def old_files() -> dict[str, bytes]:
-    """The files before any command."""
+def old_files(dasd: Path, command: Command) -> dict[str, bytes]:
+    """The files before a command, but for a journal."""
     with tempfile.TemporaryDirectory(prefix="fail_calls-") as room:
         fill(Path(room))
-        return files_in(Path(room))
+        cut_off(dasd, Path(room), command.begun)
+        return {name: held for name, held in files_in(Path(room)).items() if not is_journal(name)}
 
 
 def traced(dasd: Path, command: Command) -> tuple[Came, list[str]]:
@@ -325,17 +338,20 @@ def is_old_or_new(came: Came, old: dict[str, bytes], new: dict[str, bytes], kill
     return "one file is old and another new" if len(news) > 1 and not parts else None
 
 
-def untold(failure: Failure, came: Came, read_faults: tuple[str, ...]) -> str | None:
-    """What is wrong with what a command says that ended with a fault; where all writes fail it can't say anything."""
+def untold(failure: Failure, came: Came, command: Command) -> str | None:
+    """What is wrong with what a command says that ended with a fault; where all writes fail it can't say anything. `recover` need not say at which place
+    it read, and says in its own words that a file may not be written."""
     error, _, on = failure.how.partition(" ")
     if on and failure.call == "write":
         return None
     first, *more = came.told.decode(errors="replace").splitlines() or [""]
-    if not first.startswith("dasd: ") or on and not any(it in first for it in read_faults):
+    if not first.startswith("dasd: ") or on and not any(it in first for it in command.read_faults()):
         return f"status {came.status}, and no fault{' of a read' if on else ''} is told"
     why = f": {os.strerror(getattr(errno, error))}"
     if failure.call == "pread64":
-        why = f": at byte [0-9]+{why}"
+        why = f"(: at byte [0-9]+){'?' if command.begun else ''}{why}"
+    elif command.begun and error == "EACCES":
+        why = f"({why}|: a file of its save may not be written)"
     return None if any(re.fullmatch(rf"  \S.*{why}", line) for line in more) else f"status {came.status}, and it is not told which file it was and why"
 
 
@@ -350,7 +366,7 @@ def judge(command: Command, failure: Failure, came: Came, good: Came, old: dict[
         if came.printed != good.printed:
             return "it ends as if all were well, and printed something else"
         return None if left == good.files else "it ends as if all were well, and left something else"
-    if not killed and (fault := untold(failure, came, command.read_faults())):
+    if not killed and (fault := untold(failure, came, command)):
         return fault
     if came.kept and killed:
         return f"{came.kept[0]} stays behind the next command, or goes without a word"
@@ -438,10 +454,10 @@ def unsynced(lines: list[str]) -> list[str]:
 
 def try_command(dasd: Path, command: Command, pool: ThreadPoolExecutor) -> tuple[int, list[str]]:
     """How many failures of a command were tried, and what came out wrong."""
-    old = old_files()
+    old = old_files(dasd, command)
     good, lines = traced(dasd, command)
     wrong = [f"{command.name}: {it}" for it in unsynced(lines)]
-    if good.status or good.told:
+    if good.status or bool(good.told) != bool(command.begun):  # what is done of a save that was begun is told
         return 0, [f"{command.name}: status {good.status} where nothing fails: {good.told!r}"]
     failures = failures_of(lines, command.signals())
 
