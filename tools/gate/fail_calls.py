@@ -12,21 +12,21 @@ programs. Wanted is:
   whole; no file stays behind.
 - Where only the call fails that takes a file's first, hidden name away, all is as it was meant to be, and that name stays beside the other.
 - A program that is killed leaves each file the old one or the new one, whole, and files that keep their places all old or all new. What it had begun to write
-  may stay, under a name that begins with `.dasd-`;
-  the next command that writes a file into that folder removes it, and says so.
-- Where a file takes its place, it was synced before that. Its folder is synced right behind it, or behind the others of its save, where it replaces a file,
-  before anything is written; and once behind all where files are new.
+  may stay, under a name that begins with `.dasd-`; the next command that writes a file into that folder removes it, and says so.
+- Where a file takes its place, it was synced before that. Its folder is synced right after it, or after the others of its save, where it replaces a file,
+  before anything is written; and once after all where files are new.
 - No command succeeds where a sync failed.
-- Files that keep their places (`run`) have their old bytes until the journal has its name, `.NAME.dasd-journal` beside the first. From then on they
-  count as new: what a reader finds is the files with what the journal says, and the next run ends what was begun, says so and leaves no journal and no
-  marker. The journal was synced before it got its name, its folder after that and before a file is written, the files before the journal goes, and the
-  folder once more.
+- Files that keep their places (`run`) have their old bytes until the journal has its name, `.NAME.dasd-journal` beside the first. From then on they count as
+  new: what a reader finds is the files with what the journal says, and the next run ends what was begun, says so and leaves no journal and no marker. The
+  journal was synced before it got its name, its folder after that and before a file is written, the files before the journal goes, and the folder once more.
+- So it is where a command takes up a save that was cut off: whatever fails in it, and wherever it is killed, the files are as the journal says.
 
 It runs crates/dasd_cmd/out/dasd_cmd, as `rt ci` leaves it; with --built FILE that program; with words behind, the commands whose names have one of them.
 The last line is 'N failures of N commands, M wrong', and the status 1 where M is not 0.
 """
 
 import errno
+import io
 import os
 import re
 import shutil
@@ -57,17 +57,16 @@ ERRORS = {
 }
 # What a fault of a read is called: that of a command's own file, that of a volume, and that of a file which a text loads.
 READ_FAULTS = ("read fault", "no file of this name could be read")
-# What a read is called that a save in place needs.
-SAVE_FAULTS = ("write fault",)
+SAVE_FAULTS = ("write fault",)  # what a read is called that a save in place needs
 # The signals by which a command is ended: that of `kill -9`; where it writes files, also those of `kill`, of Ctrl-C, and of a terminal that is gone.
 KILLED = "killed by "
-# The commands that change a volume.
-CHANGES = ("rename", "delete", "relabel", "load")
+CHANGES = ("rename", "delete", "relabel", "load")  # the commands that change a volume
 SIGNALS = ["KILL", "TERM", "INT", "HUP"]
 CALL = re.compile(r"^(?P<name>\w+)\((?P<words>.*)\)\s+= (?P<answer>-?\d+)")
 PATH = re.compile(r'"((?:[^"\\]|\\.)*)"')
 # The end of the name of a journal, and of a marker that leads to one; and what a journal begins with.
 JOURNAL = ".dasd-journal"
+HALF = "write:signal=KILL:when=2"  # a run that is killed so leaves one.ckd half saved
 WHOLE = b"dasdsav\1"
 
 
@@ -80,10 +79,13 @@ class Command:
     given: bytes = b""  # on standard input
     begun: str = ""  # the call at which a run over one.ckd is killed before
 
+    def saves(self) -> bool:
+        """Whether it writes volumes in place, or takes up a save."""
+        return self.words[0] in ("run", *CHANGES) and "--replace" not in self.words or self.words[0] in ("format", "recover")
+
     def read_faults(self) -> tuple[str, ...]:
         """What a fault of a read is called."""
-        saves = self.words[0] in ("run", *CHANGES) and "--replace" not in self.words or self.words[0] in ("format", "recover")
-        return READ_FAULTS + SAVE_FAULTS if saves else READ_FAULTS
+        return READ_FAULTS + SAVE_FAULTS if self.saves() else READ_FAULTS
 
     def signals(self) -> list[str]:
         """The signals by which it is ended at each call."""
@@ -134,8 +136,11 @@ COMMANDS = [
     Command("load --member", ["load", "pack.ckd", "SYS1.MACLIB", "--member", "NEW", "--from", "cards"]),
     Command("load --all", ["load", "--all", "in", "--text", "pack.ckd"]),
     Command("relabel", ["relabel", "pack.ckd", "--label", "ABC124", "--owner", "SIXAMBRA"]),
-    Command("recover", ["recover", "one.ckd"], begun="write:signal=KILL:when=2"),
+    Command("recover", ["recover", "one.ckd"], begun=HALF),
     Command("recover --drop", ["recover", "--drop", "one.ckd"], begun="fsync:signal=KILL"),
+    Command("run after a cut-off save", ["run", "90=one.ckd"], b"TIO 190\n", HALF),
+    Command("format after a cut-off save", ["format", "one.ckd", "--cylinders", "2"], begun=HALF),
+    Command("hash after a cut-off save", ["hash", "one.ckd"], begun=HALF),
     Command("explain", ["explain", "csw", "00000428", "0E000320"]),
     Command("assemble", ["assemble"], b" ORG X'48'\n DC A(START)\nSTART TIC START\n SIO 190\n"),
     Command("assemble with a file", ["assemble"], b" LOAD C'core'\n SHOW 0 4\n"),
@@ -215,24 +220,18 @@ def kept_drafts(dasd: Path, folder: Path) -> list[str]:
 
 def is_journal(path: str | Path) -> bool:
     """Whether a name is a journal's, or a marker's."""
-    name = os.path.basename(path)
-    return name.startswith(".") and name.endswith(JOURNAL)
+    return os.path.basename(path).startswith(".") and str(path).endswith(JOURNAL)
 
 
 def whole_files(journal: Path) -> dict[str, bytes]:
     """The files that a journal names, each with what is saved of it."""
-    body = journal.read_bytes()[48:]
+    body = io.BytesIO(journal.read_bytes()[48:])
 
     def number() -> int:
-        nonlocal body
-        first, body = body[:8], body[8:]
-        return int.from_bytes(first, "big")
+        return int.from_bytes(body.read(8), "big")
 
     def string() -> bytes:
-        nonlocal body
-        size = number()
-        first, body = body[:size], body[size:]
-        return first
+        return body.read(number())
 
     names = []
     for _ in range(number()):
@@ -282,17 +281,14 @@ def play(dasd: Path, command: Command, tracing: list[str]) -> Came:
         cut_off(dasd, folder, command.begun)
         words = ["strace", "-qq", *tracing, str(dasd), *command.words, "--verbose"]
         done = subprocess.run(words, cwd=folder, input=command.given, capture_output=True, timeout=60, check=False)
-        stays = done.returncode == 0 and any(map(is_journal, folder.iterdir()))
+        stays = done.returncode == 0 and command.saves() and any(map(is_journal, folder.iterdir()))
         unread = ["a journal stays, and no fault is told"] if stays else ended_saves(dasd, folder)
         return Came(done.returncode, done.stdout, done.stderr, files_in(folder), kept_drafts(dasd, folder), unread)
 
 
-def old_files(dasd: Path, command: Command) -> dict[str, bytes]:
-    """The files before a command, but for a journal."""
-    with tempfile.TemporaryDirectory(prefix="fail_calls-") as room:
-        fill(Path(room))
-        cut_off(dasd, Path(room), command.begun)
-        return {name: held for name, held in files_in(Path(room)).items() if not is_journal(name)}
+def old_files(dasd: Path, begun: str) -> dict[str, bytes]:
+    """The files before any command; a save that was cut off is ended."""
+    return play(dasd, Command("", ["explain", "csw", "00000428", "0E000320"], begun=begun), ["-o", "/dev/null"]).files
 
 
 def traced(dasd: Path, command: Command) -> tuple[Came, list[str]]:
@@ -315,11 +311,6 @@ def failures_of(lines: list[str], signals: list[str]) -> list[Failure]:
         if at >= own:
             found += [Failure(call["name"], number, how) for how in [*ERRORS[call["name"]], *(KILLED + it for it in signals)]]
     return found
-
-
-def without_first_names(files: dict[str, bytes], failure: Failure) -> dict[str, bytes]:
-    """The files that were left, but for the hidden name that a failed call should have taken away."""
-    return {name: held for name, held in files.items() if failure.call != "unlink" or not Path(name).name.startswith(DRAFT)}
 
 
 def is_old_or_new(came: Came, old: dict[str, bytes], new: dict[str, bytes], killed: bool, parts: bool) -> str | None:
@@ -348,9 +339,10 @@ def untold(failure: Failure, came: Came, command: Command) -> str | None:
     if not first.startswith("dasd: ") or on and not any(it in first for it in command.read_faults()):
         return f"status {came.status}, and no fault{' of a read' if on else ''} is told"
     why = f": {os.strerror(getattr(errno, error))}"
-    if failure.call == "pread64":
-        why = f"(: at byte [0-9]+){'?' if command.begun else ''}{why}"
-    elif command.begun and error == "EACCES":
+    is_asked = command.words[0] == "recover"
+    if failure.call == "pread64":  # of a journal no place is told
+        why = rf"(: at byte [0-9]+|(?<=\{JOURNAL})){'?' if is_asked else ''}{why}"
+    elif is_asked and error == "EACCES":
         why = f"({why}|: a file of its save may not be written)"
     return None if any(re.fullmatch(rf"  \S.*{why}", line) for line in more) else f"status {came.status}, and it is not told which file it was and why"
 
@@ -359,12 +351,13 @@ def judge(command: Command, failure: Failure, came: Came, good: Came, old: dict[
     """What is wrong with what came of a failure of a command, if anything is."""
     if came.unread:
         return f"what is left of a save in place is not taken up: {came.unread[0]}"
-    killed, left = failure.is_killed(), without_first_names(came.files, failure)
+    killed = failure.is_killed()
     if not killed and came.status == 0:
         if failure.call in ("fsync", "fdatasync"):
             return "a sync failed, and it ends as if all were well"
         if came.printed != good.printed:
             return "it ends as if all were well, and printed something else"
+        left = {name: held for name, held in came.files.items() if failure.call != "unlink" or not Path(name).name.startswith(DRAFT)}
         return None if left == good.files else "it ends as if all were well, and left something else"
     if not killed and (fault := untold(failure, came, command)):
         return fault
@@ -454,7 +447,7 @@ def unsynced(lines: list[str]) -> list[str]:
 
 def try_command(dasd: Path, command: Command, pool: ThreadPoolExecutor) -> tuple[int, list[str]]:
     """How many failures of a command were tried, and what came out wrong."""
-    old = old_files(dasd, command)
+    old = old_files(dasd, command.begun)
     good, lines = traced(dasd, command)
     wrong = [f"{command.name}: {it}" for it in unsynced(lines)]
     if good.status or bool(good.told) != bool(command.begun):  # what is done of a save that was begun is told

@@ -4,9 +4,8 @@
 
 Settings are those of pyproject.toml, .clang-format and .clang-tidy. Python is looked at a tree at a time, since each has folders of its own
 from which its modules import. Beside the tools it looks whether a function has more than 40 lines, or more than five parameters, `self`
-apart. With words only these tools are run. A
-tool that is not there is skipped, by its name. The last line is 'N tools looked at F files, M found something', and the status 1 where M
-is not 0."""
+apart. With words only these tools are run. A tool that is not there is skipped, by its name. The last line is 'N tools looked at F files,
+M found something', and the status 1 where M is not 0."""
 
 import argparse
 import ast

@@ -5,8 +5,9 @@
 A command is run once under Debian's `strace`. From its calls follow the disks that a loss of power may leave (tools/gate/lost_power.py). On each of them
 a reader, and then the next run, must find the volumes of the command as they were, or as the command leaves them: all of them the same. With `--replace`
 files take their places one by one, so each must be its old or its new one. The run that takes up what was cut off is cut off itself, from some of these
-disks on. Files keep their numbers and their times of birth, by which a save knows them. Last, the first sync of each command is left out: then some disk
-must be wrong.
+disks on. And each sync of a command fails in turn, and the disk keeps none, all, one or all but one of what was not synced: the next run finds all of it in
+the system's memory, or only what the disk kept. Files keep their numbers and their times of birth, by which a save knows them. Last, the first sync of
+each command is left out, and what the next run writes after a sync that failed: then some disk must be wrong.
 
 It runs crates/dasd_cmd/out/dasd_cmd, as `rt ci` leaves it; with --built FILE that program; with words after these, the commands whose names have one
 of them. The last line is 'N disks of N commands, M wrong', and the status 1 where M is not 0."""
@@ -15,34 +16,29 @@ import os
 import subprocess
 import sys
 import tempfile
-from collections.abc import Iterator
+from collections import Counter
+from collections.abc import Iterable, Iterator
 from dataclasses import dataclass
 from pathlib import Path
 
 from tools import TOP
-from tools.gate.fail_calls import CARDS, CHANGES, COMMANDS, Command, deck_for, fill, try_all
-from tools.gate.lost_power import TRACED, Call, Node, State, Sync, Traced, states
+from tools.gate.fail_calls import CARDS, CHANGES, COMMANDS, Command, deck_for, fill, is_journal, try_all
+from tools.gate.lost_power import TRACED, Call, Node, State, Sync, Traced, Write, left_after, once, states
 
-# From how many of the disks of a command the next run is cut off too.
-AGAIN = 4
+AGAIN = 4  # from so many of the disks of a command, or a few more, the next run is cut off too
 MANY = ["--from", "many", *CARDS[2:], "--text"]
-# A folder beside that of the command, where files wait that no name leads to.
-ASIDE = "aside"
-
-
+ASIDE = "aside"  # a folder beside that of the command, where files wait that no name leads to
 BIG = ["big_1.ckd", "big_2.ckd"]
-# Those of COMMANDS that write volumes.
-OTHERS = ["run over two volumes", "run --replace over two volumes", "format over a file", *CHANGES, "load --replace", "load --member", "load --all"]
 WRITERS = [
     Command("run", ["run", "90=one.ckd"], deck_for("190")),
     Command("run --replace", ["run", "--replace", "90=one.ckd"], deck_for("190")),
-    *(it for it in COMMANDS if it.name in OTHERS),
+    *(it for it in COMMANDS if it.words[0] in ("format", *CHANGES) and not it.cut or "volumes" in it.name),
     Command("load onto two files", ["load", *BIG, "NEW.CARDS", *MANY]),
     Command("load --replace onto two files", ["load", "--replace", *BIG, "NEW.CARDS", *MANY]),
     Command("delete in two files", ["delete", *BIG, "SAMPLE.STOCK"]),
 ]
 
-Held = dict[str, bytes]
+Held = dict[str, bytes | None]  # by names; none of a file that is not there
 
 
 def volumes_of(writer: Command) -> list[list[str]]:
@@ -90,20 +86,22 @@ class Room:
         """Runs a command that is given nothing to read."""
         return subprocess.run([str(self.dasd), *words], cwd=self.folder, input=b"", capture_output=True, timeout=60, check=False)
 
-    def trace(self, words: list[str], given: bytes, disk: State) -> list[Call]:
-        """Runs a command from a disk on; its calls."""
+    def trace(self, words: list[str], given: bytes, disk: State, fails: str = "") -> list[Call]:
+        """Runs a command from a disk on, perhaps with a sync that fails; its calls that do not fail."""
         self.lay_out(disk)
         with tempfile.NamedTemporaryFile(prefix="lose_power-") as trace:
-            tracing = ["strace", "-qq", "-xx", "-s", "99999999", "-e", f"trace={TRACED}", "-o", trace.name, str(self.dasd), *words]
+            tracing = ["strace", "-qq", "-xx", "-s", "99999999", "-e", f"trace={TRACED}", *(["-e", f"inject={fails}"] if fails else [])]
+            tracing += ["-o", trace.name, str(self.dasd), *words]
             ran = subprocess.run(tracing, cwd=self.folder, input=given, capture_output=True, timeout=60, check=False)
-            if ran.returncode:
+            if bool(ran.returncode) != bool(fails):
                 raise AssertionError(f"{words} ends with {ran.returncode}: {ran.stderr!r}")
             lines = Path(trace.name).read_text(encoding="ascii").splitlines()
-        return Traced(self.folder, dict(disk.names)).read(lines)
+        return Traced(self.folder, dict(disk.names), 1 + max([*disk.names.values(), *disk.held])).read(lines)
 
     def held(self, writer: Command) -> Held:
         """What the files of a command's volumes hold."""
-        return {name: (self.folder / name).read_bytes() for volume in volumes_of(writer) for name in volume}
+        paths = {name: self.folder / name for volume in volumes_of(writer) for name in volume}
+        return {name: path.read_bytes() if path.exists() else None for name, path in paths.items()}
 
     def hashes(self, writer: Command) -> list[bytes]:
         """What a reader says of each volume."""
@@ -135,6 +133,8 @@ def wrong_with(room: Room, writer: Command, ends: Ends) -> str | None:
     hashes = room.hashes(writer)
     if hashes not in ends.hashes:
         return f"a reader finds neither the old nor the new volumes: {hashes}"
+    if None in room.held(writer).values():
+        return None
     ran = room.dasd_says(*next_run(writer))
     if ran.returncode:
         return f"the next run ends with {ran.returncode}: {ran.stderr!r}"
@@ -143,23 +143,33 @@ def wrong_with(room: Room, writer: Command, ends: Ends) -> str | None:
     return None if room.hashes(writer) == hashes else "the next run leaves other volumes than a reader found before it"
 
 
-def disks(room: Room, writer: Command, calls: list[Call]) -> Iterator[State]:
-    """The disks that a loss of power leaves: in the command, and then in the next run after some of these."""
-    left = list(states(room.begun, calls))
+def failed_syncs(room: Room, writer: Command, calls: list[Call]) -> Iterator[tuple[State, list[Call]]]:
+    """After each sync of a command that fails: disks that have some of what was not synced, each with the calls of the next run, which is shown all of it."""
+    for number in range(1, 1 + sum(isinstance(it, Sync) for it in calls)):
+        failed = room.trace(writer.words, writer.given, room.begun, f"fsync:error=EIO:when={number}")
+        shown = room.begun.after([it for it in failed if not isinstance(it, Sync)])
+        if all(name in shown.names for volume in volumes_of(writer) for name in volume):
+            again = room.trace(next_run(writer), b"", shown)
+            yield from ((disk, again) for disk in once(left_after(room.begun, failed)))
+
+
+def disks(room: Room, writer: Command, calls: list[Call], failed: list[tuple[State, list[Call]]]) -> Iterator[State]:
+    """The disks that a loss of power leaves: in the command, in the next run after some of these, and before and after the next run after a failed sync."""
+    left = list(once(states(room.begun, calls)))
     yield from left
-    saves = [it for it in left if any(Path(name).name.startswith(".dasd") for name in it.names)]
+    saves = [it for it in left if any(map(is_journal, it.names))]
     for disk in saves[:: max(1, len(saves) // AGAIN)]:
         yield from states(disk, room.trace(next_run(writer), b"", disk))
+    for disk, again in failed:
+        yield disk
+        yield from left_after(disk, again)
 
 
-def notices_no_sync(room: Room, writer: Command, ends: Ends, calls: list[Call]) -> bool:
-    """Whether a disk is found wrong where the first sync of a command is left out."""
-    first = next(at for at, call in enumerate(calls) if isinstance(call, Sync))
-    for disk in states(room.begun, calls[:first] + calls[first + 1 :]):
+def wrong_disks(room: Room, writer: Command, ends: Ends, left: Iterable[State]) -> Iterator[str | None]:
+    """What is wrong with each of these disks, if anything is."""
+    for disk in left:
         room.lay_out(disk)
-        if wrong_with(room, writer, ends):
-            return True
-    return False
+        yield wrong_with(room, writer, ends)
 
 
 def try_writer(dasd: Path, writer: Command) -> tuple[int, list[str]]:
@@ -170,16 +180,17 @@ def try_writer(dasd: Path, writer: Command) -> tuple[int, list[str]]:
         calls = room.trace(writer.words, writer.given, room.begun)
         ends = Ends((before, room.held(writer)), (found, room.hashes(writer)))
         assert ends.held[0] != ends.held[1], f"{writer.name} changes nothing"
-        count, wrong = 0, dict[str, int]()
-        for disk in disks(room, writer, calls):
-            count += 1
-            room.lay_out(disk)
-            said = wrong_with(room, writer, ends)
-            if said:
-                wrong[said] = wrong.get(said, 0) + 1
-        if not notices_no_sync(room, writer, ends, calls):
-            wrong["a sync that is left out leaves no wrong disk"] = 1
-        return count, [f"{writer.name}: {number} times: {said}" for said, number in wrong.items()]
+        failed = list(failed_syncs(room, writer, calls))
+        came = Counter(wrong_disks(room, writer, ends, once(disks(room, writer, calls, failed))))
+        wrong = [f"{writer.name}: {number} times: {said}" for said, number in came.items() if said]
+        first = next(at for at, call in enumerate(calls) if isinstance(call, Sync))
+        if not any(wrong_disks(room, writer, ends, once(states(room.begun, calls[:first] + calls[first + 1 :])))):
+            wrong.append(f"{writer.name}: a sync that is left out leaves no wrong disk")
+        trusting = [(disk, [it for it in again if not (isinstance(it, Write) and it.node in room.begun.held)]) for disk, again in failed]
+        believed = [it for it in trusting if it not in failed]
+        if believed and not any(wrong_disks(room, writer, ends, once(it for disk, again in believed for it in left_after(disk, again)))):
+            wrong.append(f"{writer.name}: a next run that writes nothing after a failed sync leaves no wrong disk")
+        return came.total(), wrong
 
 
 if __name__ == "__main__":

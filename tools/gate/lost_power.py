@@ -1,13 +1,14 @@
 """What a disk may hold after a loss of power, by the calls of the system that a program made.
 
-Of a file that was written, each write since its last sync is there, is not, or is there in part, cut between two sectors. Of a folder, each name that was
-given, moved or taken away since its last sync is as it is now or as it was. So says `fsync(2)`: what it does not name, it does not promise."""
+Of a file each write since its last sync is there, is not, or is there in part, cut between two sectors. Of a folder each name that was given, moved or taken
+away since its last sync is as it is now or as it was. So say `fsync(2)`, and `MayLeave` in crates/atomic_save/specs/Calls.antt. A sync promises what it names,
+and what a failed one should have put there no later one promises."""
 
 import itertools
 import os
 import random
 import re
-from collections.abc import Iterator
+from collections.abc import Iterable, Iterator
 from dataclasses import dataclass, field
 from pathlib import Path
 
@@ -20,8 +21,7 @@ TRACED = "open,openat,close,read,write,pwrite64,lseek,ftruncate,fsync,fdatasync,
 CALL = re.compile(r"^(\w+)\((.*)\)\s+= (\d+)")
 TEXT = re.compile(r'"((?:\\x[0-9a-f]{2})*)"')
 
-# A file by its number, whatever its names are.
-Node = int
+Node = int  # a file by its number, whatever its names are
 
 
 @dataclass(frozen=True)
@@ -109,6 +109,7 @@ class Traced:
 
     folder: Path
     names: dict[str, Node]
+    free: Node  # the number of the next new file
     calls: list[Call] = field(default_factory=list)
     opened: dict[int, tuple[Node | str, list[int]]] = field(default_factory=dict)  # a file or a folder, and the place in it
 
@@ -141,7 +142,8 @@ class Traced:
         if path not in self.names:
             if "O_CREAT" not in words:
                 return
-            self.lead(Lead(path, 1 + max([*self.names.values(), *(it.node for it in self.calls if isinstance(it, Lead) and it.node is not None), 0])))
+            self.lead(Lead(path, self.free))
+            self.free += 1
         if "O_TRUNC" in words:
             self.calls.append(Resize(self.names[path], 0))
         self.opened[number] = (self.names[path], [0])
@@ -189,17 +191,22 @@ def is_synced(part: Part, sync: Sync) -> bool:
     return (os.path.dirname(part.path) or "." if isinstance(part, Lead) else part.node) == sync.what
 
 
+def extremes(parts: list[Part]) -> Iterator[list[Part]]:
+    """None of these parts, all, each alone, and all but one."""
+    yield []
+    yield parts
+    for at, part in enumerate(parts):
+        yield [part]
+        yield parts[:at] + parts[at + 1 :]
+
+
 def choices(parts: list[Part], chance: random.Random) -> Iterator[list[Part]]:
     """Which of the parts that are not synced a disk may have."""
     if len(parts) <= ALL_UP_TO:
         for chosen in itertools.product((False, True), repeat=len(parts)):
             yield list(itertools.compress(parts, chosen))
     else:
-        yield []
-        yield parts
-        for at, part in enumerate(parts):
-            yield [part]
-            yield parts[:at] + parts[at + 1 :]
+        yield from extremes(parts)
         for _ in range(BY_CHANCE):
             yield [it for it in parts if chance.random() < 0.5]
     for at, part in enumerate(parts):
@@ -209,18 +216,34 @@ def choices(parts: list[Part], chance: random.Random) -> Iterator[list[Part]]:
             yield parts[:at] + [torn] + parts[at + 1 :]
 
 
-def states(begun: State, calls: list[Call]) -> Iterator[State]:
-    """Each disk that a loss of power may leave, at each moment of these calls, once."""
-    chance, seen = random.Random(5), set()
+def step(disk: State, parts: list[Part], call: Call) -> tuple[State, list[Part]]:
+    """What is on the disk after one more call, and what is not synced."""
+    if not isinstance(call, Sync):
+        return disk, [*parts, call]
+    return disk.after([it for it in parts if is_synced(it, call)]), [it for it in parts if not is_synced(it, call)]
+
+
+def left_after(begun: State, calls: list[Call]) -> Iterator[State]:
+    """The disks that have none, all, one and all but one of what is not synced after these calls."""
     disk, parts = begun, list[Part]()
+    for call in calls:
+        disk, parts = step(disk, parts, call)
+    yield from map(disk.after, extremes(parts))
+
+
+def states(begun: State, calls: list[Call]) -> Iterator[State]:
+    """Each disk that a loss of power may leave, at each moment of these calls."""
+    chance, disk, parts = random.Random(5), begun, list[Part]()
     for call in [None, *calls]:
-        if isinstance(call, Sync):
-            disk = disk.after([it for it in parts if is_synced(it, call)])
-            parts = [it for it in parts if not is_synced(it, call)]
-        elif call is not None:
-            parts.append(call)
-        for chosen in choices(parts, chance):
-            state = disk.after(chosen)
-            if state.key() not in seen:
-                seen.add(state.key())
-                yield state
+        if call is not None:
+            disk, parts = step(disk, parts, call)
+        yield from map(disk.after, choices(parts, chance))
+
+
+def once(disks: Iterable[State]) -> Iterator[State]:
+    """Each of these disks once."""
+    seen = set[object]()
+    for disk in disks:
+        if disk.key() not in seen:
+            seen.add(disk.key())
+            yield disk
