@@ -137,6 +137,16 @@ class WrongBodies(unittest.TestCase):
         self.assertEqual(planted, ["low/always_the_first", "low/most_is_least"])
         self.assertIn("low/greatest", left_out)
 
+    def test_a_body_that_one_suite_leaves_is_taken_by_another(self) -> None:
+        edit = "file: src/lib.rt\nold: { other }\nnew: { one }\n"
+        with tempfile.TemporaryDirectory() as folder:
+            write(folder, {"tools/edits/low/late.edit": edit, "tools/edits/low/round.edit": edit})
+            with mock.patch.object(sharpness, "TOP", Path(folder)):
+                leaving = sharpness.Suite(("low",), "low", (), leaves=("low/round",))
+                taking = sharpness.Suite((), "low", (), takes=("low/round",))
+                found = [[it.name for it in sharpness.edits_of(Path(folder), suite, suite.crates)] for suite in (leaving, taking)]
+        self.assertEqual(found, [["low/late"], ["low/round"]])
+
 
 class Clauses(unittest.TestCase):
     """Which functions have a clause about their result."""

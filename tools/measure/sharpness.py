@@ -44,19 +44,21 @@ DASD, STAGE = "dasd_cmd", "test_stage"
 @dataclass(frozen=True)
 class Suite:
     """A suite: the crates that it is meant to watch; the crate of the program that it plays; the words of its script, with MADE for the
-    program; the folder of its own wrong bodies; and those that it leaves to other suites, since it has no word for their calls."""
+    program; the folder of its own wrong bodies; those that it leaves to other suites, since it has no word for their calls; and those
+    of tools/edits that it takes over from such a suite."""
 
     crates: tuple[str, ...]
     program: str
     script: tuple[str, ...]
     own: str = ""
     leaves: tuple[str, ...] = ()
+    takes: tuple[str, ...] = ()
 
 
-def played(name: str, crates: str, own: str, program: str = STAGE, leaves: tuple[str, ...] = ()) -> Suite:
+def played(name: str, crates: str, own: str, program: str = STAGE, leaves: tuple[str, ...] = (), takes: tuple[str, ...] = ()) -> Suite:
     """A suite of rows/play.py."""
     words = ("MADE",) if program == STAGE else ("none", "--dasd", "MADE")
-    return Suite(tuple(crates.split()), program, ("rows/play.py", *words, "--first", "--seconds", "60", *name.split()), own, leaves)
+    return Suite(tuple(crates.split()), program, ("rows/play.py", *words, "--first", "--seconds", "60", *name.split()), own, leaves, takes)
 
 
 DRIVE = "ckd_position ckd_sense ckd_command ckd_slot ckd_drive"
@@ -65,13 +67,23 @@ NO_EVENTS = ("s360_channel/attach_reuses_an_address", "s360_channel/detach_takes
              "s360_channel/image_is_that_of_the_first_drive", "s360_channel/storage_is_exchanged_without_its_keys")
 # a drive compares piece by piece, by another function: `rows/tables` asks this one
 NO_SEARCH = ("ckd_position/search_compares_at_most_four_bytes",)
+# a program alone has a drive pass by records at once: `rows/programs` tries these
+ROUNDS = tuple("ckd_drive/" + it for it in ("area_more_than_asked_for_passes_by", "equal_record_passes_by", "key_more_than_was_passed_is_told",
+                                            "one_record_too_many_passes_by"))
+# neither the stage nor `dasd` copies, saves or restores what it plays at: c/tests/copies.c, states.c and drive_words.c do
+NO_STATES = ("ckd_drive/copy_forgets_the_credit", "ckd_drive/copy_forgets_the_lap", "ckd_drive/restore_forgets_the_sense_bytes",
+             "ckd_drive/restore_takes_a_cylinder_that_the_volume_lacks", "ckd_slot/copy_drops_the_changed_track",
+             "s360_program/copy_forgets_the_residual_count", "s360_channel/channel_with_other_drives_is_put_back",
+             "s360_channel/copy_loses_the_pending_ending", "s360_channel/device_end_pends_beside_an_arm_that_moves",
+             "s360_channel/saved_channel_loses_the_word_that_pends", "s360_channel/status_pends_that_no_channel_owes",
+             "s360_channel/word_pends_for_a_drive_that_is_not_there")
 FILES = "dasd_volumes dasd_archive volume_labels dasd_jobs dasd_run dasd_cmd"
 SUITES = {
-    "rows/channel": played("channel", "s360_program s360_channel s360_deck", "channel"),
-    "rows/lists": played("lists failing_lists", "s360_program s360_channel", "lists"),
-    "rows/decks": played("traces cut_programs hostile_decks", "s360_program s360_channel s360_deck", "", leaves=NO_EVENTS),
-    "rows/drives": played("drives", DRIVE, "drives", leaves=NO_SEARCH),
-    "rows/programs": played("programs", "s360_words s360_program", "programs"),
+    "rows/channel": played("channel", "s360_program s360_channel s360_deck", "channel", leaves=NO_STATES),
+    "rows/lists": played("lists failing_lists", "s360_program s360_channel", "lists", leaves=NO_STATES),
+    "rows/decks": played("traces cut_programs hostile_decks", "s360_program s360_channel s360_deck", "", leaves=NO_EVENTS + NO_STATES),
+    "rows/drives": played("drives", DRIVE, "drives", leaves=NO_SEARCH + ROUNDS + NO_STATES),
+    "rows/programs": played("programs", "s360_words s360_program", "programs", leaves=NO_STATES, takes=ROUNDS),
     "rows/images": played("images", "ckd_image", "images"),
     "rows/tracks": played("tracks", "ckd_track", "tracks"),
     "rows/tables": played("tables", "s360_words ckd_position ckd_sense", "tables"),
@@ -82,7 +94,7 @@ SUITES = {
     "rows/files": played("dasd hostile_checks", FILES, "real_files", DASD),
     "rows/hostile": played("hostile_slots images tracks", "ckd_track ckd_image", ""),
     "differ": Suite(("s360_words", *DRIVE.split(), "s360_program", "s360_channel"), DASD,
-                    ("conformance/differ.py", "--lists", "200", "model", "dasd=MADE"), leaves=NO_SEARCH),
+                    ("conformance/differ.py", "--lists", "200", "model", "dasd=MADE"), leaves=NO_SEARCH + NO_STATES),
     "real_files": played("files", FILES, "real_files", DASD),
     "fail_calls": Suite((), DASD, ("tools/run", "gate/fail_calls", "--built", "MADE"), "fail_calls"),
     "lose_power": Suite(("atomic_save", "file_journals", "journal_text"), DASD, ("tools/run", "gate/lose_power", "--built", "MADE")),
@@ -90,8 +102,10 @@ SUITES = {
 # Wrong bodies that no run of a suite can show, and why.
 NO_RUN_SHOWS = {
     "ckd_image/failure_not_counted": "only proofs read that count",
+    "ckd_drive/key_never_passes_by": "a round that does not pass at once comes to the same unit by unit",
     "s360_words/caw_takes_any_low_bits": "the fetch of the first word refuses such an address with the same answer",
     "ckd_slot/bytes_behind_the_end_mark_are_left": "no drive puts bytes behind an end mark; the contract alone leaves it open",
+    "ckd_slot/bytes_in_pieces_leave_the_slot_known_as_exact": "what a drive puts lies within a record, and the slot stays exact",
     "dasd_run/volume_that_is_not_saved_is_told_as_not_opened": "both faults have the same words and the same status",
     "fail_calls: header_that_was_not_read_again_is_told_as_read": "the header is among the bytes that were read ahead with it",
 }
@@ -256,13 +270,16 @@ class Edit(NamedTuple):
 
 
 def edits_of(top: Path, suite: Suite, crates: Iterable[str]) -> Iterator[Edit]:
-    """The wrong bodies to try of a suite: those of these crates, and its own."""
+    """The wrong bodies to try of a suite: those of these crates, those that it takes over, and its own."""
     for crate in crates:
         folder = top / "crates" / crate
         for edits in (folder / "must-fail", TOP / "tools" / "edits" / crate):
             for edit in sorted(edits.glob("*.edit")):
                 if f"{crate}/{edit.stem}" not in suite.leaves:
                     yield Edit(f"{crate}/{edit.stem}", folder, edit)
+    for name in suite.takes:
+        crate, _, stem = name.partition("/")
+        yield Edit(name, top / "crates" / crate, TOP / "tools" / "edits" / crate / f"{stem}.edit")
     if suite.own:
         for edit in sorted((TOP / "tools" / "wrong_bodies" / suite.own).glob("*.edit")):
             yield Edit(f"{suite.own}: {edit.stem}", top, edit)
