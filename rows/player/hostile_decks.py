@@ -65,10 +65,10 @@ def deck() -> bytes:
 
 
 def comes_to(text: bytes, fault: str, stage: Stage) -> None:
-    """That a text comes to this without a line of answers, and nothing has run."""
-    came = play_text(stage, text)
-    same(repr(text[:60]), fault, came.fault)
-    same(repr(text[:60]), True, came.is_untouched())
+    """That a text comes to this without a line of answers, and nothing has run, however it is run."""
+    for run in RUNS:
+        came = play_text(stage, text, run=run)
+        same("%s %r" % (run, text[:60]), (fault, True), (came.fault, came.is_untouched()))
 
 
 def cut_line(number: int, stage: Stage) -> None:
@@ -184,6 +184,7 @@ ENDLESS_ANSWERS = ("STORE OK", "STORE OK", "SIO 190 CC 0", "STEP 65535", "RUN 70
                    "STEP 0")
 REFUSED = {
     b"\0": "line 1: unknown event", b"\0\n": "line 1: unknown event", b"TCH\n\xff\n": "line 2: unknown event",
+    b"TCH\n\nFOO": "line 3: unknown event",
     b"FOO": "line 1: unknown event", b"* x\nSIO 19": "line 2: bad operand", b"STEP 65536": "line 1: bad operand",
     b"STEP 000001": "line 1: bad operand",
     b"SHOW 0 33": "line 1: bad operand", b"STORE 1000000 00": "line 1: bad operand", b"TCH\r\r\n": "line 1: unknown event",
