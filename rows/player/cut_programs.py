@@ -20,7 +20,8 @@ from .text import Block, Case, Wrong, files_of, read_blocks, same
 
 # a program that does not end is cut after so many units at most
 MOST_UNITS = 250
-BEFORE = ["STORE 48 000003F8", "STORE 3F8 1300000000000001", "SIO 191", "STORE 48 00000400"]
+# the bytes after the channel address word stay as they are
+BEFORE = ["STORE 4C %s" % ("EE" * 100), "STORE 48 000003F8", "STORE 3F8 1300000000000001", "SIO 191", "STORE 48 00000400"]
 BETWEEN = ["STEP 1", "TCH", "TIO 191", "ARRIVE 191"]
 # so many units before a cut are done one by one, with other events between
 LAST = 3

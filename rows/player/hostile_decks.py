@@ -18,6 +18,9 @@ READS = LONGEST_DECK + 1
 PIECE = 5
 BLANK = "STATE idle, 90 AtRest"
 RUNS = ("DECK RUN", "DECK COUNTED", "DECK TRACE")
+NEW = Disk("2311", 1)
+# three records behind record 0
+RECORDS = NEW.with_puts(["0 21 0000000001000008+D1*8+0000000002000008+D2*8+0000000003000008+D3*8+FF*8"])
 
 
 @dataclass(frozen=True)
@@ -34,10 +37,10 @@ class Came:
         return not self.written and not any(self.storage) and self.state == BLANK
 
 
-def play(stage: Stage, lines: list[str], *ends: str, run: str = RUNS[0]) -> Came:
-    """Runs a deck, which lines for the stage make, at a channel over a new volume; `ends` say how its reader and its writer are, and `run`
+def play(stage: Stage, lines: list[str], *ends: str, run: str = RUNS[0], disk: Disk = NEW) -> Came:
+    """Runs a deck, which lines for the stage make, at a channel over a volume; `ends` say how its reader and its writer are, and `run`
     by which call."""
-    row = ChannelRow(stage, {"V": Disk("2311", 1)})
+    row = ChannelRow(stage, {"V": disk})
     row.makes("channel", "1 %d" % SIZE)
     row.attach(["90", "V"])
     # reads are counted from here on
@@ -52,8 +55,8 @@ def deck_lines(text: bytes) -> list[str]:
     return ["DECK BYTES %s" % spelled(text[at:at + 4096]) for at in range(0, len(text), 4096)] or ["DECK BYTES -"]
 
 
-def play_text(stage: Stage, text: bytes, *ends: str, run: str = RUNS[0]) -> Came:
-    return play(stage, deck_lines(text), *ends, run=run)
+def play_text(stage: Stage, text: bytes, *ends: str, run: str = RUNS[0], disk: Disk = NEW) -> Came:
+    return play(stage, deck_lines(text), *ends, run=run, disk=disk)
 
 
 def deck() -> bytes:
@@ -165,10 +168,10 @@ def thousands(lines: tuple[str, ...], changes: int, length: int, stage: Stage) -
     same("events of the serial list", length * changes, serial.count("|"))
 
 
-def is_answered(text: bytes, answers: tuple[str, ...], stage: Stage) -> None:
+def is_answered(text: bytes, answers: tuple[str, ...], stage: Stage, disk: Disk = NEW) -> None:
     """That a deck is answered so, by each call that runs one."""
     for run in RUNS[:2]:
-        came = play_text(stage, text, run=run)
+        came = play_text(stage, text, run=run, disk=disk)
         same(run, ("", "".join(it + "|" for it in answers)), (came.fault, came.written))
 
 
@@ -182,6 +185,17 @@ ENDLESS = (b"STORE 48 00000400\nSTORE 400 0300000040000001 0800040000000000\nSIO
            b"STEP 5\n")
 ENDLESS_ANSWERS = ("STORE OK", "STORE OK", "SIO 190 CC 0", "STEP 65535", "RUN 70000", "RUN 1", "STEP 0", "TCH CC 2", "RESET CLEAN", "RUN 0",
                    "STEP 0")
+# a search that goes round and asks for interruptions, one whose transfer is led elsewhere meanwhile, and a read of a track that is at hand
+ROUNDS = (b"STORE 48 00000400\nSTORE 400 3100050048000005 0800040000000000 0600060000000008\nSTORE 500 0000000003\nSIO 190\nINT\n"
+          b"STEP 5\nSTEP 10\nINT\nSTEP 8\nINT\nSTEP 65535\nINT\n"
+          b"STORE 400 3100050040000005 0800040000000000 0300000000000001\nSTORE 420 0600060000000008\nSTORE 500 0000000009\nSIO 190\n"
+          b"STEP 15\nSTORE 408 0800042000000000\nSTEP 65535\nINT\nSHOW 600 8\n"
+          b"STORE 400 0600060040000008 0600070000000008\nSIO 190\nSTEP 5\nSTEP 65535\nINT\n")
+ROUNDS_ANSWERS = (
+    *["STORE OK"] * 3, "SIO 190 CC 0", "INT 190 00000408 00800005", "STEP 5", "STEP 10", "INT 190 00000410 00800000", "STEP 8",
+    "INT 190 00000410 00800000", "STEP 17", "INT 190 00000418 0C800000",
+    *["STORE OK"] * 3, "SIO 190 CC 0", "STEP 15", "STORE OK", "STEP 18", "INT 190 00000428 0C000000", "SHOW 000600 " + "D2" * 8,
+    "STORE OK", "SIO 190 CC 0", "STEP 5", "STEP 14", "INT 190 00000410 0C000000")
 REFUSED = {
     b"\0": "line 1: unknown event", b"\0\n": "line 1: unknown event", b"TCH\n\xff\n": "line 2: unknown event",
     b"TCH\n\nFOO": "line 3: unknown event",
@@ -211,6 +225,7 @@ def cases() -> Iterator[Case]:
         yield Case("refused: %r" % text, partial(comes_to, text, fault))
     yield Case("the good deck is answered", partial(is_answered, deck(), GOOD_ANSWERS))
     yield Case("steps and runs of thousands of units", partial(is_answered, ENDLESS, ENDLESS_ANSWERS))
+    yield Case("rounds of a search, and a read, in steps", partial(is_answered, ROUNDS, ROUNDS_ANSWERS, disk=RECORDS))
     yield Case("stores of 1 to 260 digits", stores)
     yield Case("lines of up to 599 blanks", blanks)
     for length in (1001, 4099):

@@ -11,7 +11,7 @@ sys.path.insert(0, str(TOP / "rows"))
 
 from player.text import DATA, read_blocks  # noqa: E402
 
-ROWS = {"channel": 108, "traces": 64, "cut_programs": 32, "drives": 133, "programs": 134, "tables": 24, "tracks": 51, "dasd": 85, "extracts": 35,
+ROWS = {"channel": 117, "traces": 64, "cut_programs": 32, "drives": 133, "programs": 134, "tables": 24, "tracks": 51, "dasd": 85, "extracts": 35,
         "words": 25}
 # those over real files
 FILES = {"archives": 8, "changes": 9, "cut_offs": 11, "deletes": 13, "extracts": 8, "findings": 16, "folder_loads": 12, "folders": 6, "formats": 10,

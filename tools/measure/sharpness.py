@@ -62,8 +62,6 @@ def played(name: str, crates: str, own: str, program: str = STAGE, leaves: tuple
 
 
 DRIVE = "ckd_position ckd_sense ckd_command ckd_slot ckd_drive"
-# no row of a channel is traced: `rows/decks` traces decks
-NO_TRACE = ("s360_deck/watcher_is_told_a_unit_before_the_first_event",)
 # calls of a channel for which a deck has no word: `rows/lists` and `rows/channel` make them
 NO_EVENTS = ("s360_channel/attach_reuses_an_address", "s360_channel/detach_takes_a_drive_whose_device_end_is_owed",
              "s360_channel/image_is_that_of_the_first_drive", "s360_channel/storage_is_exchanged_without_its_keys")
@@ -81,7 +79,7 @@ NO_STATES = ("ckd_drive/copy_forgets_the_credit", "ckd_drive/copy_forgets_the_la
              "s360_channel/word_pends_for_a_drive_that_is_not_there")
 FILES = "dasd_volumes dasd_archive volume_labels dasd_jobs dasd_run dasd_cmd"
 SUITES = {
-    "rows/channel": played("channel", "s360_program s360_channel s360_deck", "channel", leaves=NO_STATES + NO_TRACE),
+    "rows/channel": played("channel", "s360_program s360_channel s360_deck", "channel", leaves=NO_STATES),
     "rows/lists": played("lists failing_lists", "s360_program s360_channel", "lists", leaves=NO_STATES),
     "rows/decks": played("traces cut_programs hostile_decks", "s360_program s360_channel s360_deck", "", leaves=NO_EVENTS + NO_STATES),
     "rows/drives": played("drives", DRIVE, "drives", leaves=NO_SEARCH + ROUNDS + NO_STATES),
@@ -106,6 +104,7 @@ NO_RUN_SHOWS = {
     "ckd_image/failure_not_counted": "only proofs read that count",
     "ckd_drive/key_never_passes_by": "a round that does not pass at once comes to the same unit by unit",
     "s360_channel/halt_forgets_the_size_of_storage": "no call reads that size of a channel, and proofs alone do",
+    "s360_deck/watcher_is_told_a_unit_before_the_first_event": "a trace prints nothing at a unit before which it saw no program",
     "s360_words/caw_takes_any_low_bits": "the fetch of the first word refuses such an address with the same answer",
     "ckd_slot/bytes_behind_the_end_mark_are_left": "no drive puts bytes behind an end mark; the contract alone leaves it open",
     "ckd_slot/bytes_in_pieces_leave_the_slot_known_as_exact": "what a drive puts lies within a record, and the slot stays exact",
