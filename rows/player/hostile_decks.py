@@ -185,17 +185,20 @@ ENDLESS = (b"STORE 48 00000400\nSTORE 400 0300000040000001 0800040000000000\nSIO
            b"STEP 5\n")
 ENDLESS_ANSWERS = ("STORE OK", "STORE OK", "SIO 190 CC 0", "STEP 65535", "RUN 70000", "RUN 1", "STEP 0", "TCH CC 2", "RESET CLEAN", "RUN 0",
                    "STEP 0")
-# a search that goes round and asks for interruptions, one whose transfer is led elsewhere meanwhile, and a read of a track that is at hand
+# a search that goes round and asks for interruptions, one whose transfer is led elsewhere meanwhile, and reads of a track that is at hand: in
+# steps, with a count that is too long, and skipped
 ROUNDS = (b"STORE 48 00000400\nSTORE 400 3100050048000005 0800040000000000 0600060000000008\nSTORE 500 0000000003\nSIO 190\nINT\n"
           b"STEP 5\nSTEP 10\nINT\nSTEP 8\nINT\nSTEP 65535\nINT\n"
           b"STORE 400 3100050040000005 0800040000000000 0300000000000001\nSTORE 420 0600060000000008\nSTORE 500 0000000009\nSIO 190\n"
           b"STEP 15\nSTORE 408 0800042000000000\nSTEP 65535\nINT\nSHOW 600 8\n"
-          b"STORE 400 0600060040000008 0600070000000008\nSIO 190\nSTEP 5\nSTEP 65535\nINT\n")
+          b"STORE 400 0600060040000008 0600070000000008\nSIO 190\nSTEP 5\nSTEP 65535\nINT\n"
+          b"STORE 400 0600060000000064\nSIO 190\nSTEP 65535\nINT\nSTORE 400 0600068010000008\nSIO 190\nSTEP 65535\nINT\nSHOW 680 8\n")
 ROUNDS_ANSWERS = (
     *["STORE OK"] * 3, "SIO 190 CC 0", "INT 190 00000408 00800005", "STEP 5", "STEP 10", "INT 190 00000410 00800000", "STEP 8",
     "INT 190 00000410 00800000", "STEP 17", "INT 190 00000418 0C800000",
     *["STORE OK"] * 3, "SIO 190 CC 0", "STEP 15", "STORE OK", "STEP 18", "INT 190 00000428 0C000000", "SHOW 000600 " + "D2" * 8,
-    "STORE OK", "SIO 190 CC 0", "STEP 5", "STEP 14", "INT 190 00000410 0C000000")
+    "STORE OK", "SIO 190 CC 0", "STEP 5", "STEP 14", "INT 190 00000410 0C000000", "STORE OK", "SIO 190 CC 0", "STEP 9", "INT 190 00000408 0C40005C",
+    "STORE OK", "SIO 190 CC 0", "STEP 9", "INT 190 00000408 0C000000", "SHOW 000680 " + "00" * 8)
 REFUSED = {
     b"\0": "line 1: unknown event", b"\0\n": "line 1: unknown event", b"TCH\n\xff\n": "line 2: unknown event",
     b"TCH\n\nFOO": "line 3: unknown event",
@@ -225,7 +228,7 @@ def cases() -> Iterator[Case]:
         yield Case("refused: %r" % text, partial(comes_to, text, fault))
     yield Case("the good deck is answered", partial(is_answered, deck(), GOOD_ANSWERS))
     yield Case("steps and runs of thousands of units", partial(is_answered, ENDLESS, ENDLESS_ANSWERS))
-    yield Case("rounds of a search, and a read, in steps", partial(is_answered, ROUNDS, ROUNDS_ANSWERS, disk=RECORDS))
+    yield Case("rounds of a search, and reads of a track that is at hand", partial(is_answered, ROUNDS, ROUNDS_ANSWERS, disk=RECORDS))
     yield Case("stores of 1 to 260 digits", stores)
     yield Case("lines of up to 599 blanks", blanks)
     for length in (1001, 4099):
