@@ -29,7 +29,7 @@ import subprocess
 import sys
 import tempfile
 import time
-from dataclasses import dataclass
+from dataclasses import dataclass, replace
 from pathlib import Path
 from types import ModuleType
 from typing import Iterable, Iterator, NamedTuple
@@ -55,10 +55,10 @@ class Suite:
     takes: tuple[str, ...] = ()
 
 
-def played(name: str, crates: str, own: str, program: str = STAGE, leaves: tuple[str, ...] = (), takes: tuple[str, ...] = ()) -> Suite:
+def played(name: str, crates: str, own: str, program: str = STAGE, leaves: tuple[str, ...] = ()) -> Suite:
     """A suite of rows/play.py."""
     words = ("MADE",) if program == STAGE else ("none", "--dasd", "MADE")
-    return Suite(tuple(crates.split()), program, ("rows/play.py", *words, "--first", "--seconds", "60", *name.split()), own, leaves, takes)
+    return Suite(tuple(crates.split()), program, ("rows/play.py", *words, "--first", "--seconds", "60", *name.split()), own, leaves)
 
 
 DRIVE = "ckd_position ckd_sense ckd_command ckd_slot ckd_drive"
@@ -83,7 +83,7 @@ SUITES = {
     "rows/lists": played("lists failing_lists", "s360_program s360_channel", "lists", leaves=NO_STATES),
     "rows/decks": played("traces cut_programs hostile_decks", "s360_program s360_channel s360_deck", "", leaves=NO_EVENTS + NO_STATES),
     "rows/drives": played("drives", DRIVE, "drives", leaves=NO_SEARCH + ROUNDS + NO_STATES),
-    "rows/programs": played("programs", "s360_words s360_program", "programs", leaves=NO_STATES, takes=ROUNDS),
+    "rows/programs": replace(played("programs", "s360_words s360_program", "programs", leaves=NO_STATES), takes=ROUNDS),
     "rows/images": played("images", "ckd_image", "images"),
     "rows/tracks": played("tracks", "ckd_track", "tracks"),
     "rows/tables": played("tables", "s360_words ckd_position ckd_sense", "tables"),
