@@ -281,7 +281,7 @@ def play(dasd: Path, command: Command, tracing: list[str]) -> Came:
         cut_off(dasd, folder, command.begun)
         words = ["strace", "-qq", *tracing, str(dasd), *command.words, "--verbose"]
         done = subprocess.run(words, cwd=folder, input=command.given, capture_output=True, timeout=60, check=False)
-        stays = done.returncode == 0 and command.saves() and any(map(is_journal, folder.iterdir()))
+        stays = done.returncode == 0 and command.saves() and b"is read over it" not in done.stderr and any(map(is_journal, folder.iterdir()))
         unread = ["a journal stays, and no fault is told"] if stays else ended_saves(dasd, folder)
         return Came(done.returncode, done.stdout, done.stderr, files_in(folder), kept_drafts(dasd, folder), unread)
 

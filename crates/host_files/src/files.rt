@@ -12,7 +12,7 @@ use crate::remarks::Remarks;
 use crate::traces::{TraceFile, TraceSink};
 use dasd_jobs::{FileFault, ImageFiles, Journals, NewFile, SavePlan, Sources, Traces, Written};
 use file_journals::{SaveFault, recover_file, whole_file};
-use file_places::{Notes, Told, clear_folder, folder_of, wrong};
+use file_places::{Notes, Told, beside, clear_folder, folder_of, is_free, wrong};
 use std::alloc::Global;
 use std::fs::File;
 use std::io::{BufWriter, ErrorKind};
@@ -143,7 +143,16 @@ impl<'a> HostFiles<'a> {
         ensures opened { self.new.opened ≡ self.old.opened }
     {
         let in_place = self.writes_over();
-        find_old(self.remarks, &mut self.locked, path, replaces, in_place)
+        let old = find_old(self.remarks, &mut self.locked, path, replaces, in_place)?;
+        if let Some(it) = &old {
+            // a save that can't be ended, since another file of it may not be written
+            if let Some(journal) = beside(self.host, it.path.as_path())? {
+                if !is_free(self.host, journal.as_path())? {
+                    return Err(wrong("something is at the name of its journal"));
+                }
+            }
+        }
+        Ok(old)
     }
 
     // Begins a new file for a path, in the place of the old one, if there is one. Its folder is cleared of what killed programs left.
