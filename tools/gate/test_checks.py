@@ -380,7 +380,7 @@ class Power(unittest.TestCase):
                 "fsync(3) = 0",
                 'unlink("\\x6f\\x6c\\x64") = 0',
             ]
-            found = Traced(Path(folder), {"old": 0}).read(lines)
+            found = Traced(Path(folder), {"old": 0}, 1).read(lines)
         wanted = [Write(0, 0, b"B"), Write(0, 7, b"D"), Sync(0), Lead("old", None)]
         self.assertEqual(found, wanted)
 
