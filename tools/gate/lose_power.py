@@ -32,7 +32,7 @@ BIG = ["big_1.ckd", "big_2.ckd"]
 WRITERS = [
     Command("run", ["run", "90=one.ckd"], deck_for("190")),
     Command("run --replace", ["run", "--replace", "90=one.ckd"], deck_for("190")),
-    *(it for it in COMMANDS if it.words[0] in ("format", *CHANGES) and not it.cut or "volumes" in it.name),
+    *(it for it in COMMANDS if it.words[0] in ("format", *CHANGES) and not it.begun or "volumes" in it.name),
     Command("load onto two files", ["load", *BIG, "NEW.CARDS", *MANY]),
     Command("load --replace onto two files", ["load", "--replace", *BIG, "NEW.CARDS", *MANY]),
     Command("delete in two files", ["delete", *BIG, "SAMPLE.STOCK"]),

@@ -144,12 +144,14 @@ impl<'a> HostFiles<'a> {
     {
         let in_place = self.writes_over();
         let old = find_old(self.remarks, &mut self.locked, path, replaces, in_place)?;
-        if let Some(it) = &old {
-            // a save that can't be ended, since another file of it may not be written
-            if let Some(journal) = beside(self.host, it.path.as_path())? {
-                if !is_free(self.host, journal.as_path())? {
-                    return Err(wrong("something is at the name of its journal"));
-                }
+        // a save that can't be ended, since another file of it may not be written, or of a file that is gone
+        let home = match &old {
+            Some(old) => old.path.as_path(),
+            None => Path::new(path),
+        };
+        if let Some(journal) = beside(self.host, home)? {
+            if !is_free(self.host, journal.as_path())? {
+                return Err(wrong("something is at the name of its journal"));
             }
         }
         Ok(old)
