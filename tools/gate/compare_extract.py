@@ -6,20 +6,14 @@ The volumes are those of tools/make/hercules_volumes.py: data sets of all record
 source, load modules and records of variable length. The program is the word, or else the built one of crates/dasd_cmd. It needs Debian's
 package hercules. Each difference is a line; the last line is 'N compared, M differ', and the status 1 where M is not 0.
 
-Each data set and each member is taken out to standard output, to a file with --to, and as text; and each volume by --all, raw, as text and
-with lines of JSON, whose files must be those that were put there, under their names, and beside them the text of what labels and directories say, as
-Python reads these (tools/common/folder_texts.py), and no others. The members of each partitioned data set
-are listed too, with --list and by `dasd vtoc --members`. Beside what was put there stand:
-
-- `dasdcat`, for each member: its bytes, and the names of a directory, in their order;
-- `dasdpdsu`, for each member of cards: its bytes; and with ascii, as text;
-- `dasdcat` with the flag c, for each member of cards: as text;
-- `dasdseq`, for each sequential data set of records of fixed length: its records; and with -ascii, as text.
+Each data set and each member is taken out to standard output, to a file with --to, and as text; and each volume by --all, raw, as text and with lines of
+JSON, whose files must be those that were put there, and beside them the text of what labels and directories say (tools/common/folder_texts.py), and no
+others. Members are listed with --list and by `dasd vtoc --members`. Beside what was put there are `dasdcat` for each member, as bytes and as text, and its
+directory; `dasdpdsu` for members of cards; and `dasdseq` for sequential data sets of records of fixed length.
 
 What Hercules' tools can't tell, or tell otherwise, is left out:
 
-- `dasdpdsu` and the flag c take members of cards alone, records of 80 bytes: others are compared with what was put there and with `dasdcat`;
-- both cut a card to 72 columns as text, so the first 72 columns of a line are compared;
+- `dasdpdsu` and the flag c take members of cards alone, and cut a card to 72 columns as text: the first 72 columns of a line are compared;
 - `dasdseq` takes an extent for user labels for one of the data set's, and finds nothing behind the end of file in it;
 - control characters, which they print and `dasd` shows as U+FFFD: two data sets of bytes by chance are compared with what was put there;
 - they know no text in records of variable or undefined length, and none of them reads a data set that is not partitioned and has such

@@ -2,24 +2,18 @@
 
     tools/run gate/fail_calls [--built FILE] [--jobs N] [COMMAND..]
 
-A command is run once as it is, and what it printed and left is kept; then once for each of its calls that works with files, and each way in which that call may
-fail, once or from there on (by Debian's `strace --inject`), and once more for each, killed there; where a command writes files, by each signal that ends
-programs. Wanted is:
+A command is run once as it is; then once for each of its calls that works with files, and each way in which that call may fail, once or from there on (by
+Debian's `strace --inject`), and once more for each, killed there; where it writes files, by each signal that ends programs. Wanted is:
 
-- With status 0 the command printed what it prints, and left what it leaves: no failure is told as success, and no byte that the file did not hold is printed.
-- With another status a fault is told on standard error (that of a read, where reads fail from there on), and behind it the host's words for what failed,
-  with the file and, of a read at a place, that place; what was printed is the beginning of what it prints, and each file is the old one or the new one,
-  whole; no file stays behind.
-- Where only the call fails that takes a file's first, hidden name away, all is as it was meant to be, and that name stays beside the other.
-- A program that is killed leaves each file the old one or the new one, whole, and files that keep their places all old or all new. What it had begun to write
-  may stay, under a name that begins with `.dasd-`; the next command that writes a file into that folder removes it, and says so.
-- Where a file takes its place, it was synced before that. Its folder is synced right after it, or after the others of its save, where it replaces a file,
-  before anything is written; and once after all where files are new.
-- No command succeeds where a sync failed.
-- Files that keep their places (`run`) have their old bytes until the journal has its name, `.NAME.dasd-journal` beside the first. From then on they count as
-  new: what a reader finds is the files with what the journal says, and the next run ends what was begun, says so and leaves no journal and no marker. The
-  journal was synced before it got its name, its folder after that and before a file is written, the files before the journal goes, and the folder once more.
-- So it is where a command takes up a save that was cut off: whatever fails in it, and wherever it is killed, the files are as the journal says.
+- With status 0 the command printed and left what it does where nothing fails. No command succeeds where a sync failed.
+- With another status a fault is told, and after it the host's words, with the file and, of a read at a place, that place. What was printed is the beginning
+  of what it prints, and each file is the old one or the new one, whole; no other stays but one whose hidden name could not be taken away.
+- A program that is killed leaves each file old or new, and files that keep their places all old or all new. A name that begins with `.dasd-` may stay: the
+  next command that writes a file into that folder removes it, and says so.
+- A file is synced before it takes its place, and its folder after it, or after the others of its save.
+- Files that keep their places are old until the journal has its name, `.NAME.dasd-journal` beside the first. Then they count as new: a reader finds what the
+  journal says, and the next run ends what was begun, says so and leaves no journal. The journal is synced before it gets its name, its folder before a file
+  is written, the files before the journal goes, and the folder once more. So it is where a command takes up a save that was cut off.
 
 It runs crates/dasd_cmd/out/dasd_cmd, as `rt ci` leaves it; with --built FILE that program; with words behind, the commands whose names have one of them.
 The last line is 'N failures of N commands, M wrong', and the status 1 where M is not 0.
