@@ -6,10 +6,8 @@ A volume is made in memory first; then a deck writes it into a new image of `das
 Search Identifier Equal for record 0, and one Write Count, Key and Data after another. Each answer of the deck is looked at, and the
 image must hold the same bytes as the one in memory. The volumes are, for both drives:
 
-- one with a label: VOL1 as record 3 of cylinder 0, head 0, and blocks of formats 4, 5, 1 and 3 on the track behind it, all spelled by
-  tools/common/written_labels.py; a sequential data set over five extents, and a partitioned one;
-- one without any label;
-- those of tools/make/hercules_volumes.py, each written by decks anew, track by track.
+- one with a label and blocks of formats 4, 5, 1 and 3 (tools/common/written_labels.py), a sequential data set over five extents, and a partitioned one;
+- one without any label; and those of tools/make/hercules_volumes.py, written again track by track.
 
 `dasdls` must list the data sets as they were meant, `dasdseq` and `dasdcat` give their records and members, `dasdpdsu` unload them,
 `dasdseq -abs` find the records where there is no label, and `dasdcopy` make an image in which `dasd compare` finds nothing else.

@@ -1,11 +1,10 @@
-"""Puts data sets onto packs, takes them off and renames them, by chance, and compares each pack, byte by byte, with what a model in Python makes
-of it.
+"""Puts data sets onto packs, takes them off and renames them, by chance, and compares each pack, byte by byte, with what a model in Python makes of it.
 
     tools/run gate/play_changes [--built FILE] [--changes N] [--seed N]
 
 A pack is one that `dasd format --label` has made. Then come loads of files with blocks of a form by chance, as they stand, behind their lengths
 and keys, or as lines of text; deletions and renames; some of them refused: for a name, a form or a length that can't be, for a pack that is full.
-Behind each, what was printed, the pack's bytes, and what `dasd extract` takes out of each new data set, in each way, must be what the model says. It
+After each, what was printed, the pack's bytes, and what `dasd extract` takes out of each new data set, in each way, must be what the model says. It
 shares no code with `dasd`: the layouts are those of System Control Blocks (GC28-6628), 'Data Set Control Block', and what goes on a track is by the
 capacities of the 2841 and the 2314."""
 
