@@ -19,10 +19,10 @@ What Hercules' tools can't tell, or tell otherwise, is left out:
 - they know no text in records of variable or undefined length, and none of them reads a data set that is not partitioned and has such
   records or is direct or indexed sequential: these are compared with what was put there alone, by a reading of record formats that shares
   no code with `dasd` (tools/common/record_forms.py);
-- `dasdcat` shows names of members in small letters; data sets that share cylinders are runs of tracks to `dasdls` and `dasdseq`, and `dasdseq` ends at a defective track. That is so over the two
-  volumes of tools/gate/made_packs.py, or else it is a difference; what `dasd` takes out is compared with what was put there.
-
-Of a spanned record `dasd` drops the blanks at the end of its last segment alone (docs/DECISIONS.md), and so does that reading."""
+- `dasdcat` shows names of members in small letters; data sets that share cylinders are runs of tracks to `dasdls` and `dasdseq`, and `dasdseq` ends at a
+  defective track. That is so over the two volumes of tools/gate/made_packs.py, or else it is a difference; what `dasd` takes out is compared with what was
+  put there. Of a spanned record `dasd` drops the blanks at the end of its last segment alone (docs/DECISIONS.md), and so does that reading.
+"""
 
 import json
 import pathlib
