@@ -243,9 +243,10 @@ fn save_in_place<'p>(
     let mut parts = Vec::new(remarks.host().alloc());
     for it in new {
         let pushed = match it.draft.part() {
-            Some(part) => parts
-                .push(part)
-                .map_err(|_| Error::from(ErrorKind::OutOfMemory)),
+            Some(part) => match parts.push(part) {
+                Ok(()) => Ok(()),
+                Err(_) => Err(Error::from(ErrorKind::OutOfMemory)),
+            },
             None => Err(wrong("another program has removed it")),
         };
         if let Err(fault) = pushed {

@@ -1,6 +1,6 @@
 //! Files of the host that are locked, and that may be replaced.
 
-ghost use Rattle.std.specs.Prelude.{◌≡◌, ◌+◌, length, OnOk, OnErr};
+ghost use Rattle.std.specs.Prelude.{◌≡◌, ◌+◌, length, OnOk};
 ghost use Rattle.std.specs.IoError.{error_kind};
 
 use crate::drafts::{HostDraft, Old};
@@ -124,8 +124,7 @@ pub(crate) fn keep(
     file: &File,
     known: &Metadata,
 ) -> io::Result<()>
-    ensures kept { OnOk result (length held.new.items ≡ length held.old.items + 1) }
-    ensures stays { OnErr result (held.new ≡ held.old) }
+    ensures { OnOk result (length held.new.items ≡ length held.old.items + 1) }
 {
     let locked = Locked {
         file: file.try_clone()?,
