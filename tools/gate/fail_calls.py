@@ -336,8 +336,8 @@ def untold(failure: Failure, came: Came, command: Command) -> str | None:
     is_asked = command.words[0] == "recover"
     if failure.call == "pread64":  # of a journal no place is told
         why = rf"(: at byte [0-9]+|(?<=\{JOURNAL})){'?' if is_asked else ''}{why}"
-    elif is_asked and error == "EACCES":
-        why = f"({why}|: a file of its save may not be written)"
+    elif command.begun and error == "EACCES":
+        why = f"({why}|: a file of its save may not be written|: something is at the name of its journal)"
     return None if any(re.fullmatch(rf"  \S.*{why}", line) for line in more) else f"status {came.status}, and it is not told which file it was and why"
 
 
