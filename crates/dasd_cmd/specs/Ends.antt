@@ -17,4 +17,4 @@ ended_status false (Err fault) = status_of fault
 -- nobody reads the output any more
 abbrev pub is_broken_pipe : ErrorKind → Bool
 is_broken_pipe io.BrokenPipe = true
-is_broken_pipe other = false
+is_broken_pipe kind = false
