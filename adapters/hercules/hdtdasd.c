@@ -86,7 +86,7 @@ static void send_off(DEVBLK *dev) {
 
 /* --- Commands --- */
 
-/* A command is over with this unit status: what Hercules is told. Where its chain ends written tracks are saved. */
+/* The unit status for Hercules at the end of a command. At the end of a chain it saves the written tracks. */
 static uint8_t ended(DEVBLK *dev, uint8_t status, bool last) {
     struct drive *m = drive_of(dev);
     if (!(status & CSW_DE)) { /* an arm moves; within a chain it takes no time */
@@ -103,7 +103,7 @@ static uint8_t ended(DEVBLK *dev, uint8_t status, bool last) {
     return status;
 }
 
-/* A word that begins a command, or goes on with that of the word before: what Hercules is told. */
+/* Begins the command of a word, or continues that of the word before; gives the unit status for Hercules. */
 static uint8_t does(DEVBLK *dev, BYTE *bytes, size_t count, bool last) {
     struct drive *m = drive_of(dev);
     dasd_drive_word *w = &m->word;

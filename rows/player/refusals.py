@@ -68,7 +68,7 @@ class Refused:
         return (came.status, came.told) == (1, b"dasd: out of memory\n") and is_front and came.files == old
 
     def is_begun(self, came: Came, good: Came, old: dict[str, bytes]) -> bool:
-        """Whether it said that there is no memory, of a file whose save was cut off before it; and the next run ends that, as it is told."""
+        """Whether it said that there is no memory, of a file whose save was cut off before it; and the next run ends that, as the remark says."""
         told = came.told.decode().splitlines()
         begun = [it[1] for it in map(BEGUN.fullmatch, told[1:]) if it]
         if not any(it.endswith(JOURNAL) for it in old) or (came.status, told[:1], len(begun)) != (1, ["dasd: out of memory"], len(told) - 1) or not begun:

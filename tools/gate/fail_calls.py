@@ -6,7 +6,7 @@ A command is run once as it is; then once for each of its calls that works with 
 Debian's `strace --inject`), and once more for each, killed there; where it writes files, by each signal that ends programs. Wanted is:
 
 - With status 0 the command printed and left what it does where nothing fails. No command succeeds where a sync failed.
-- With another status a fault is told, and after it the host's words, with the file and, of a read at a place, that place. What was printed is the beginning
+- With another status it reports a fault, and after it the host's words, with the file and, of a read at a place, that place. What was printed is the beginning
   of what it prints, and each file is the old one or the new one, whole; no other stays but one whose hidden name could not be taken away.
 - A program that is killed leaves each file old or new, and files that keep their places all old or all new. A name that begins with `.dasd-` may stay: the
   next command that writes a file into that folder removes it, and says so.
@@ -334,7 +334,7 @@ def untold(failure: Failure, came: Came, command: Command) -> str | None:
         return f"status {came.status}, and no fault{' of a read' if on else ''} is told"
     why = f": {os.strerror(getattr(errno, error))}"
     is_asked = command.words[0] == "recover"
-    if failure.call == "pread64":  # of a journal no place is told
+    if failure.call == "pread64":  # the place in a journal is left out
         why = rf"(: at byte [0-9]+|(?<=\{JOURNAL})){'?' if is_asked else ''}{why}"
     elif command.begun and error == "EACCES":
         why = f"({why}|: a file of its save may not be written|: something is at the name of its journal)"
@@ -444,7 +444,7 @@ def try_command(dasd: Path, command: Command, pool: ThreadPoolExecutor) -> tuple
     old = old_files(dasd, command.begun)
     good, lines = traced(dasd, command)
     wrong = [f"{command.name}: {it}" for it in unsynced(lines)]
-    if good.status or bool(good.told) != bool(command.begun):  # what is done of a save that was begun is told
+    if good.status or bool(good.told) != bool(command.begun):  # it reports what it did with a save that had begun
         return 0, [f"{command.name}: status {good.status} where nothing fails: {good.told!r}"]
     failures = failures_of(lines, command.signals())
 

@@ -254,7 +254,7 @@ def read_only(room: Room) -> None:
 
 
 def full(room: Room) -> None:
-    """A track that can't be written is told by the file's name, and is lost only as the drive is detached."""
+    """The console names the file whose track can't be written. The track is lost when the drive is detached."""
     if os.geteuid():
         print("skipped: full (only root makes a disk that is full)")
         return
@@ -270,7 +270,7 @@ def full(room: Room) -> None:
         room.put("core", bytes(core))
         fill(disk, pack)
         room.devices = ["0190 2314 %s" % pack]
-        room.commands += ["sh sleep 1", "detach 0190", "sh sleep 1", "quit"]  # what is told as Hercules ends may be cut off
+        room.commands += ["sh sleep 1", "detach 0190", "sh sleep 1", "quit"]  # Hercules may cut off its last lines as it ends
         log = room.run()
         expect("it is told", "%s is not written: No space left on device" % pack in log, True)
         expect("and at the end", "%s: written tracks are lost" % pack in log, True)
