@@ -96,7 +96,7 @@ class Maker:
     def user_data(self, blocks: int) -> str:
         """The user data of an entry, with the addresses of some of its member's blocks."""
         notes = self.chance.choice([0, 0, 1, 2, 3]) if blocks else 0
-        words = [f"{self.chance.randint(1, blocks)}/{self.chance.randrange(256):02X}" for _ in range(notes)]
+        words = [f"{self.chance.randint(1, blocks)}/00" for _ in range(notes)]
         rest = self.chance.randbytes(2 * self.chance.choice([0, 0, 1, self.chance.randint(0, 31 - 2 * notes)]))
         return "".join(f" {it}" for it in [*words, *([rest.hex().upper()] if rest else [])])
 

@@ -1,6 +1,6 @@
 -- The entries of a library's directory, by the lines of a text.
 use Rattle.std.specs.Prelude.{ℕ, ◌-◌, ◌==◌, Bool, is_some, if◌then◌else◌, List, [], ◌∷◌, ◌++◌, bytes_eq}
-use Rattle.std.specs.Prelude.{Option, Some, None, option_and_then, Result, Ok, Err}
+use Rattle.std.specs.Prelude.{Option, Some, None, Result, Ok, Err}
 use Rattle.std.specs.List.{position}
 use Rattle.std.specs.Option.{unwrap_or}
 use Rattle.record_tracks.specs.declared.libraries.MemberEntry.{MemberEntry}
@@ -9,7 +9,7 @@ use Rattle.set_forms.specs.declared.forms.EntryForm.{EntryForm}
 use Rattle.set_forms.specs.declared.forms.Note.{Note}
 use Rattle.set_forms.specs.declared.forms.Note.TheVariants.{Block, Address}
 use Rattle.loaded_folders.specs.declared.fault.FolderEntryFault.{FolderEntryFault}
-use Rattle.loaded_folders.specs.declared.fault.FolderEntryFault.TheVariants.{NoMember, NoBlock}
+use Rattle.loaded_folders.specs.declared.fault.FolderEntryFault.TheVariants.{NoMember, NoBlock, NoteList}
 use Rattle.loaded_folders.specs.Sets.{members_of}
 
 -- an entry as a library is to have it: its member is the one of this number, from 0 on
@@ -28,24 +28,33 @@ member_parts e = record { name = e.name; member = e.member; is_alias = e.is_alia
 abbrev pub member_name : EntryForm → List ℕ
 member_name e = unwrap_or e.member e.name
 
--- a note to a block by its number, from 1 on in a text and from 0 on in a library
-abbrev pub note_to : Note → Option MemberNote
-note_to (Block number byte) = if number == 0 then None else Some (record { block = number - 1; count = byte })
-note_to (Address address byte) = None
+-- A note to a block by its number, from 1 on in a text and from 0 on in a library. The byte counts the addresses in a note list, which
+-- would be wrong on the volume.
+abbrev pub note_to : Note → Result MemberNote FolderEntryFault
+note_to (Block number byte) =
+    if number == 0 then Err NoBlock
+    else (if byte == 0 then Ok (record { block = number - 1; count = 0 }) else Err NoteList)
+note_to (Address address byte) = Err NoBlock
 
--- these notes, and those of the others, if each leads to a block
-abbrev pub notes_behind : List MemberNote → List Note → Option (List MemberNote)
-notes_behind done [] = Some done
-notes_behind done (n ∷ notes) = option_and_then (λ d. notes_behind (done ++ d ∷ []) notes) (note_to n)
+-- the first note that leads nowhere ends it
+abbrev pub on_note : Result MemberNote FolderEntryFault → (MemberNote → Result (List MemberNote) FolderEntryFault)
+    → Result (List MemberNote) FolderEntryFault
+on_note (Ok n) next = next n
+on_note (Err f) next = Err f
 
-abbrev pub notes_to : List Note → Option (List MemberNote)
+-- these notes, and those of the others
+abbrev pub notes_behind : List MemberNote → List Note → Result (List MemberNote) FolderEntryFault
+notes_behind done [] = Ok done
+notes_behind done (n ∷ notes) = on_note (note_to n) (λ d. notes_behind (done ++ d ∷ []) notes)
+
+abbrev pub notes_to : List Note → Result (List MemberNote) FolderEntryFault
 notes_to notes = notes_behind [] notes
 
 -- an entry with its member and its notes, if it has both
-abbrev pub entry_with : EntryForm → Option ℕ → Option (List MemberNote) → Result EntryParts FolderEntryFault
+abbrev pub entry_with : EntryForm → Option ℕ → Result (List MemberNote) FolderEntryFault → Result EntryParts FolderEntryFault
 entry_with e None notes = Err NoMember
-entry_with e (Some member) None = Err NoBlock
-entry_with e (Some member) (Some notes) =
+entry_with e (Some member) (Err f) = Err f
+entry_with e (Some member) (Ok notes) =
     Ok (record { name = e.name; member = member; is_alias = is_some e.member; notes = notes; user = e.user.items })
 
 -- an entry of a library with members of these names

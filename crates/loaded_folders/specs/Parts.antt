@@ -5,7 +5,6 @@ use Rattle.dasd_jobs.specs.declared.faults.JobFault.TheVariants.{OutOfMemory}
 use Rattle.ckd_track.specs.declared.geometries.Geometry.{Geometry}
 use Rattle.dasd_jobs.specs.Sources.{SourceFile}
 use Rattle.dasd_unload.specs.Unloads.{file_name}
-use Rattle.record_tracks.specs.declared.libraries.MemberNote.{MemberNote}
 use Rattle.set_forms.specs.declared.fault.TextFault.TheVariants as wrong
 use Rattle.set_forms.specs.Parsing.{parsed}
 use Rattle.changed_volumes.specs.Changes.{IsNotDone}
@@ -20,7 +19,6 @@ use Rattle.changed_volumes.specs.declared.fault.ChangeFault.TheVariants as fault
 use Rattle.loaded_folders.specs.declared.fault.FolderRefusal.TheVariants as refusal
 use Rattle.loaded_folders.specs.declared.fault.FolderEntryFault.{FolderEntryFault}
 use Rattle.loaded_folders.specs.declared.fault.Uncarried.{Uncarried}
-use Rattle.loaded_folders.specs.declared.fault.FolderEntryFault.TheVariants.{NoBlock}
 use Rattle.loaded_folders.specs.declared.sets.SetLines as declared_lines
 use Rattle.loaded_folders.specs.declared.sets.FolderSet as declared
 use Rattle.loaded_folders.specs.Sets.{SetLines, FolderSet}
@@ -40,15 +38,10 @@ folder_set s = record { lines = lines_of s.lines.now; files = map (λ f. f.items
 abbrev pub folder_entry : FolderEntry → EntryParts
 folder_entry e = record { name = e.name; member = e.member; is_alias = e.is_alias; notes = e.notes.items; user = e.user.now }
 
--- this is why an entry leads nowhere, or there is no memory
-abbrev pub IsUnled : Unled → Result EntryParts FolderEntryFault → Type 0
+-- this is why an entry, or its notes, lead nowhere, or there is no memory
+abbrev pub IsUnled : {A : Type 0} → Unled → Result A FolderEntryFault → Type 0
 IsUnled (unled.Fault f) made = made ≡ Err f
 IsUnled unled.OutOfMemory made = Unit {0}
-
--- this is why the notes of an entry are not made, or there is no memory
-abbrev pub IsNoted : Unled → Option (List MemberNote) → Type 0
-IsNoted (unled.Fault f) made = (f ≡ NoBlock) × (made ≡ None)
-IsNoted unled.OutOfMemory made = Unit {0}
 
 -- there is no memory
 abbrev pub IsNoMemory : FolderFault → Type 0

@@ -1,10 +1,10 @@
 //! The entries of a library's directory, as the lines of a text say them.
 
-ghost use Rattle.std.specs.Prelude.{◌≡◌, ◌++◌, ◌∷◌, [], map, bytes_eq, Ok, Some, None, IfOk, IfErr, OnOk, MatchOption};
+ghost use Rattle.std.specs.Prelude.{◌≡◌, ◌++◌, ◌∷◌, [], map, bytes_eq, Ok, IfOk, IfErr, OnOk};
 ghost use Rattle.std.specs.List.{position};
 ghost use Rattle.loaded_folders.specs.Sets.{members_of};
 ghost use Rattle.loaded_folders.specs.Entries.{member_name, note_to, notes_to, entry_parts, entries_of, member_parts};
-ghost use Rattle.loaded_folders.specs.Parts.{folder_entry, IsUnled, IsNoted, IsNoMemory, TellsUnled, TellsEntry};
+ghost use Rattle.loaded_folders.specs.Parts.{folder_entry, IsUnled, IsNoMemory, TellsUnled, TellsEntry};
 
 use crate::fault::{FolderEntryFault, FolderFault, FolderRefusal, NO_MEMORY};
 use crate::names::name_of_entry;
@@ -32,28 +32,30 @@ pub(crate) enum Unled {
     OutOfMemory,
 }
 
-// The note of a library for one of a text, if it leads to a block.
-fn note_to(note: Note) -> Option<MemberNote>
+// The note of a library for one of a text, if it leads to a block that is no note list.
+fn note_to(note: Note) -> Result<MemberNote, FolderEntryFault>
     ensures { result ≡ note_to note }
 {
     match note {
-        Note::Block(0, _) | Note::Address(_, _) => None,
-        Note::Block(number, byte) => Some(MemberNote {
+        Note::Block(0, _) | Note::Address(_, _) => Err(FolderEntryFault::NoBlock),
+        Note::Block(number, 0) => Ok(MemberNote {
             block: number as usize - 1,
-            count: byte,
+            count: 0,
         }),
+        Note::Block(_, _) => Err(FolderEntryFault::NoteList),
     }
 }
 
 // The notes of a library for those of a text.
 fn notes_to(alloc: Global, notes: &[Note]) -> Result<Vec<MemberNote>, Unled>
-    ensures made { IfOk result (λ made. notes_to notes.now ≡ Some made.items) }
-    ensures fault { IfErr result (λ e. IsNoted e (notes_to notes.now)) }
+    ensures made { IfOk result (λ made. notes_to notes.now ≡ Ok made.items) }
+    ensures fault { IfErr result (λ e. IsUnled e (notes_to notes.now)) }
 {
     let mut made = Vec::new(alloc);
     for note in notes {
-        let Some(note) = note_to(*note) else {
-            return Err(Unled::Fault(FolderEntryFault::NoBlock));
+        let note = match note_to(*note) {
+            Ok(note) => note,
+            Err(fault) => return Err(Unled::Fault(fault)),
         };
         if made.push(note).is_err() {
             return Err(Unled::OutOfMemory);

@@ -15,6 +15,9 @@ pub enum FolderEntryFault {
     /// A note of it leads to no block by its number.
     #[error("a note leads to no block")]
     NoBlock,
+    /// A note of it leads to a note list, whose addresses would be wrong on the volume.
+    #[error("a note leads to a note list, whose addresses would be wrong")]
+    NoteList,
 }
 
 /// Why a folder does not carry a data set: its files and its line do not have all that the data set was.
