@@ -1,6 +1,5 @@
 -- Slots that are written from their beginning on, with zeros behind what was written.
-use Rattle.std.proofs.Common.{◌≡◌, ◌∙◌, ap, refl, ℕ, ◌-◌, List, [], ◌++◌, length, replicate}
-use Rattle.std.proofs.Common.{◌+◌, arith, append_assoc, length-append}
+use Rattle.std.proofs.Common.{◌≡◌, ◌∙◌, ap, refl, ℕ, ◌-◌, List, [], ◌++◌, length, replicate, ◌+◌, arith, append_assoc, length-append}
 use Rattle.std.proofs.lemmas.List.{length-replicate}
 use Rattle.record_tracks.specs.Filled.{filled, PutBehind}
 
@@ -13,16 +12,15 @@ put_behind n before now front bytes at puts size is whole = rw size at (puts fro
 pub two_puts : (at next : ℕ) (x y s0 s1 s2 : List ℕ) → PutBehind at x s0 s1 → PutBehind next y s1 s2 → next ≡ at + length x
     → length s1 ≡ length s0 → PutBehind at (x ++ y) s0 s2
 two_puts at next x y s0 s1 s2 one two far size front is whole =
-    let long : length (front ++ x) ≡ next = omega (arith, far, is, length-append front x) in
-    put_behind (length s0) s1 s2 (front ++ x) y next two size long (one front is whole)
-    ∙ ap (filled (length s0)) (append_assoc front x y)
+    let long : length (front ++ x) ≡ next = omega (arith, length-append front x) in
+    cc (put_behind (length s0) s1 s2 (front ++ x) y next two size long (one front is whole), append_assoc front x y)
 
 -- bytes in a slot of zeros
 pub begun : (s0 s1 s2 bytes : List ℕ) → s1 ≡ replicate (length s0) 0 → PutBehind 0 bytes s1 s2 → s2 ≡ filled (length s0) bytes
 begun s0 s1 s2 bytes zeros puts =
     let none : length s0 ≡ length s0 - 0 = omega arith in
     put_behind (length s0) s1 s2 [] bytes 0 puts (ap length zeros ∙ length-replicate (length s0) 0) refl
-    (zeros ∙ ap (λ (n : ℕ). replicate n 0) none)
+    (cc)
 
 pub track_spelled : (home r0 blocks end : List ℕ) → ((home ++ r0) ++ blocks) ++ end ≡ home ++ ((r0 ++ blocks) ++ end)
 track_spelled home r0 blocks end = simp append_assoc

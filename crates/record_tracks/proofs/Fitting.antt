@@ -1,6 +1,6 @@
 -- How many records go on a track, and how many bytes they take there.
-use Rattle.std.proofs.Common.{◌≡◌, ◌∙◌, ap, sym, refl, subst, inl, inr, ⊎_elim, ◌⊎◌, ℕ, suc, ◌+◌, ◌-◌, ◌*◌, ◌≤◌, ◌<◌, true}
-use Rattle.std.proofs.Common.{false, List, [], ◌∷◌, length, take, drop, get_or, nat_le, sum_by, arith}
+use Rattle.std.proofs.Common.{◌≡◌, ◌∙◌, ap, sym, refl, subst, inl, inr, ⊎_elim, ◌⊎◌, ℕ, zero, suc, ◌+◌, ◌-◌, ◌*◌, ◌≤◌, ◌<◌, true, false}
+use Rattle.std.proofs.Common.{List, [], ◌∷◌, length, take, drop, get_or, nat_le, sum_by, arith, ◌≢◌, All, drop-drop, length-drop}
 use Rattle.std.proofs.lemmas.Bool.{cases_lt}
 use Rattle.std.proofs.lemmas.Bool.Decides.{nat_tests}
 use Rattle.std.proofs.lemmas.List.{drop_more, drop_all}
@@ -8,8 +8,9 @@ use Rattle.std.proofs.lemmas.List.Sums.{sum_by-cons}
 use Rattle.ckd_track.specs.declared.model.DriveModel.{DriveModel}
 use Rattle.ckd_track.specs.declared.model.DriveModel.TheVariants.{D2311, D2314}
 use Rattle.ckd_track.specs.Model.{capacity_of}
-use Rattle.record_tracks.specs.Records.{Areas, GoesOn, charge_for, last_charge_for}
-use Rattle.record_tracks.specs.Tracks.{fitting, fitting_on}
+use Rattle.record_tracks.specs.Records.{Areas, GoesOn, charge_for, last_charge_for, end_of_file}
+use Rattle.record_tracks.specs.Tracks.{fitting, fitting_on, behind_track, left_behind}
+use Rattle.std.proofs.lemmas.List.Elements.{All-get_or}
 
 pub none_fits : (model : DriveModel) (taken : ℕ) → fitting model taken [] ≡ 0
 unfolding fitting
@@ -46,7 +47,7 @@ charges D2314 a = record { last = omega arith; least = omega arith; most = omega
 
 -- a record that goes on a track has lengths that a count area can say
 pub few_bytes : (model : DriveModel) (a : Areas) → GoesOn model a → length a.data_area < 65536
-few_bytes model a goes = omega (arith, (charges model a).last, (charges model a).capacity, goes.most)
+few_bytes model a goes = omega (arith, (charges model a).last, (charges model a).capacity)
 
 -- What goes on a track: no more than there is, a number that a byte holds, and with 8 bytes more than the capacity it has room.
 pub record FitsOn (model : DriveModel) (taken : ℕ) (areas : List Areas) (n : ℕ) : Type 0 where
@@ -64,17 +65,17 @@ module _ (model : DriveModel) (taken : ℕ) (a : Areas) (others : List Areas) wh
       let c = charges model a in
       let cons = sum_by-cons area_size a (take n others) in
       let by : (capacity_of model < next) ⊎ (next ≤ capacity_of model) → taken + sizes (a ∷ take n others) ≤ capacity_of model + 8 =
-      λ either. ⊎_elim (λ over. let none = more.none over in rw none (omega (arith, within, c.last, sum_by-cons area_size a [])))
-      (λ under. omega (arith, more.room under, c.least, c.last, cons)) either in
+      λ either. ⊎_elim (λ over. let none = more.none over in rw none (omega (arith, within, sum_by-cons area_size a [])))
+      (λ under. omega (arith, more.room under)) either in
       record {
-        within = omega (arith, more.within);
-        few = omega (arith, more.few, c.least, c.capacity, within);
+        within = omega arith;
+        few = omega (arith, within);
         room = λ _. by (cases_lt (capacity_of model) next);
-        none = λ over. absurd (omega (arith, over, within));
+        none = λ over. absurd (omega (arith, within));
       }
 
   none_on : FitsOn model taken (a ∷ others) 0
-  none_on = record { within = omega arith; few = omega arith; room = λ h. omega (arith, h); none = λ _. refl }
+  none_on = record { within = omega arith; few = omega arith; room = λ h. omega arith; none = λ _. refl }
 
   on_either : (capacity_of model < taken + last_charge_for model a) ⊎ (taken + last_charge_for model a ≤ capacity_of model)
       → FitsOn model (taken + charge_for model a) others (fitting model (taken + charge_for model a) others)
@@ -84,20 +85,18 @@ module _ (model : DriveModel) (taken : ℕ) (a : Areas) (others : List Areas) wh
 
 pub fits_on : (model : DriveModel) (taken : ℕ) (areas : List Areas) → FitsOn model taken areas (fitting model taken areas)
 fits_on model taken [] = subst (FitsOn model taken []) (sym (none_fits model taken))
-    (record { within = omega arith; few = omega arith; room = λ h. omega (arith, h); none = λ _. refl })
-fits_on model taken (a ∷ others) =
-    on_either model taken a others (cases_lt (capacity_of model) (taken + last_charge_for model a))
+    (record { within = omega arith; few = omega arith; room = λ h. omega arith; none = λ _. refl })
+fits_on model taken (a ∷ others) = on_either model taken a others (cases_lt (capacity_of model) (taken + last_charge_for model a))
     (fits_on model (taken + charge_for model a) others)
 
 -- A loop over records that has passed so many, which have taken so much of the track.
 module _ (model : DriveModel) (left : List Areas) (k taken : ℕ) (d : Areas)
     (so_far : fitting_on model left ≡ k + fitting model taken (drop k left)) where
   next_is : k < length left → fitting_on model left ≡ k + fitting model taken (get_or left k d ∷ drop (k + 1) left)
-  next_is there = so_far ∙ ap (λ (xs : List Areas). k + fitting model taken xs) (drop_more left k d there)
+  next_is there = cc (drop_more left k d there)
 
   pub stops : k < length left → capacity_of model < taken + last_charge_for model (get_or left k d) → k ≡ fitting_on model left
-  stops there over =
-      omega (arith, next_is there ∙ ap (λ (n : ℕ). k + n) (is_full model taken (get_or left k d) (drop (k + 1) left) over))
+  stops there over = omega (arith, next_is there ∙ ap (λ (n : ℕ). k + n) (is_full model taken (get_or left k d) (drop (k + 1) left) over))
 
   pub goes_on : k < length left → taken + last_charge_for model (get_or left k d) ≤ capacity_of model
       → fitting_on model left ≡ k + 1 + fitting model (taken + charge_for model (get_or left k d)) (drop (k + 1) left)
@@ -112,4 +111,45 @@ module _ (model : DriveModel) (left : List Areas) (k taken : ℕ) (d : Areas)
 
 -- one at least goes on an empty track
 pub some_fits : (model : DriveModel) (a : Areas) (others : List Areas) → GoesOn model a → 1 ≤ fitting_on model (a ∷ others)
-some_fits model a others goes = omega (arith, one_fits model 0 a others (omega (arith, goes.most)))
+some_fits model a others goes = omega (arith, one_fits model 0 a others (omega arith))
+
+pub none_behind : (model : DriveModel) (areas : List Areas) → left_behind model areas 0 ≡ areas
+unfolding left_behind
+none_behind model areas = refl
+
+pub one_behind : (model : DriveModel) (areas : List Areas) (n : ℕ)
+    → left_behind model areas (suc n) ≡ behind_track model (left_behind model areas n)
+unfolding left_behind
+one_behind model areas n = refl
+
+module _ (model : DriveModel) (all : List Areas) (next : ℕ) where
+  -- a track takes one at least
+  pub some_fit : All (GoesOn model) all → next < length all → 1 ≤ fitting_on model (drop next all)
+  some_fit each there =
+      let a = get_or all next end_of_file in
+      let some = some_fits model a (drop (next + 1) all) (All-get_or (GoesOn model) all next end_of_file there each) in
+      omega (arith, some, ap (fitting_on model) (drop_more all next end_of_file there))
+
+  pub some_left : next < length all → drop next all ≢ []
+  some_left there none = omega (arith, ap length none, length-drop next all)
+
+  -- what is left behind one track more
+  pub one_more : (tracks : ℕ) → drop next all ≡ left_behind model all tracks
+      → drop (next + fitting_on model (drop next all)) all ≡ left_behind model all (tracks + 1)
+  one_more tracks is =
+      let n : suc tracks ≡ tracks + 1 = omega arith in
+      cc (drop-drop (fitting_on model (drop next all)) next all, one_behind model all tracks)
+
+-- no more is left behind more tracks
+pub left_shrinks : (model : DriveModel) (areas : List Areas) (i d : ℕ)
+    → length (left_behind model areas (i + d)) ≤ length (left_behind model areas i)
+left_shrinks model areas i zero = let e : i + 0 ≡ i = omega arith in omega (arith, ap (λ (j : ℕ). length (left_behind model areas j)) e)
+left_shrinks model areas i (suc d) =
+    let e : i + suc d ≡ suc (i + d) = omega arith in
+    let left = left_behind model areas (i + d) in omega (
+      arith,
+      ap (λ (j : ℕ). length (left_behind model areas j)) e,
+      ap length (one_behind model areas (i + d)),
+      length-drop (fitting_on model left) left,
+      left_shrinks model areas i d,
+    )

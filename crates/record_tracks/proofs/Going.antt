@@ -1,13 +1,63 @@
--- How many entries go into a block.
-use Rattle.std.proofs.Common.{◌≡◌, ◌∙◌, ap, sym, refl, subst, ℕ, zero, suc, ◌+◌, ◌≤◌}
-use Rattle.std.proofs.Common.{◌<◌, List, [], ◌∷◌, ◌++◌, length, take, drop, get_or, arith, nat_le}
-use Rattle.std.proofs.Common.{true, false, ◌⊎◌, inl, inr, length-append, append-nil}
+-- The entries of a directory, one behind another.
+use Rattle.std.proofs.Common.{◌≡◌, ◌∙◌, ap, subst, ℕ, ◌+◌, ◌≤◌, ◌<◌, List, [], ◌∷◌, length, map, get_or, arith, All, length-append, sym}
+use Rattle.std.proofs.Common.{refl, zero, suc, ◌++◌, take, drop, nat_le, true, false, ◌⊎◌, inl, inr, append-nil, ◌≢◌, drop-drop}
+use Rattle.std.proofs.Common.{length-drop}
+use Rattle.std.proofs.lemmas.List.{get_or_append_left, get_or_push, get_or-map, length-map, drop_more, drop_all, take_more}
+use Rattle.std.proofs.lemmas.List.Elements.{All-nil, All-cons, All-head, All-tail, All-get_or}
+use Rattle.record_tracks.specs.declared.entries.NewEntry.{NewEntry}
+use Rattle.record_tracks.specs.Entries.{EntryContents, contents_of, all_contents, entry_bytes, entry_front, all_entries, last_entry}
+use Rattle.record_tracks.specs.Entries.{IsEntry}
 use Rattle.std.specs.List.{concat}
 use Rattle.std.proofs.lemmas.Bool.{cases_lt}
 use Rattle.std.proofs.lemmas.Bool.Decides.{nat_tests}
-use Rattle.std.proofs.lemmas.List.{drop_more, drop_all, take_more}
 use Rattle.std.proofs.lemmas.List.Folds.{concat-append}
-use Rattle.record_tracks.specs.Directory.{going_in, used_by}
+use Rattle.record_tracks.specs.Directory.{going_in, used_by, behind_block, left_behind}
+
+pub length-all : (entries : List EntryContents) → length (all_entries entries) ≡ length entries + 1
+length-all entries = omega (arith, length-append (map entry_bytes entries) (last_entry ∷ []), length-map entries entry_bytes)
+
+pub length-entries : (entries : List NewEntry) → length (all_entries (all_contents entries)) ≡ length entries + 1
+length-entries entries = omega (arith, length-all (all_contents entries), length-map entries contents_of)
+
+pub entry_in : (entries : List EntryContents) (k : ℕ) (d : EntryContents) → k < length entries
+    → get_or (all_entries entries) k [] ≡ entry_bytes (get_or entries k d)
+entry_in entries k d there =
+    get_or_append_left (map entry_bytes entries) (last_entry ∷ []) [] k (omega (arith, length-map entries entry_bytes))
+    ∙ get_or-map entry_bytes entries k d [] there
+
+-- an entry of the list
+pub entry_at : (entries : List NewEntry) (k : ℕ) (d : NewEntry) → k < length entries
+    → get_or (all_entries (all_contents entries)) k [] ≡ entry_bytes (contents_of (get_or entries k d))
+entry_at entries k d there =
+    let one = entry_in (all_contents entries) k (contents_of d) (omega (arith, length-map entries contents_of)) in
+    cc (get_or-map contents_of entries k d (contents_of d) there)
+
+pub is_at : (entries : List NewEntry) (k : ℕ) (d : NewEntry) → All IsEntry (all_contents entries) → k < length entries
+    → IsEntry (contents_of (get_or entries k d))
+is_at entries k d each there = subst IsEntry (get_or-map contents_of entries k d (contents_of d) there)
+    (All-get_or IsEntry (all_contents entries) k (contents_of d) (omega (arith, length-map entries contents_of)) each)
+
+pub last_in : (entries : List EntryContents) → get_or (all_entries entries) (length entries) [] ≡ last_entry
+last_in entries = get_or_push (map entry_bytes entries) last_entry [] (length entries) (length-map entries entry_bytes)
+
+pub length-front : (e : EntryContents) → IsEntry e → length (entry_front e) ≡ 12
+length-front e is = omega (arith, length-append {A = ℕ})
+
+pub length-entry : (e : EntryContents) → IsEntry e → length (entry_bytes e) ≡ 12 + length e.user_data
+length-entry e is = omega (arith, length-front e is, length-append (entry_front e) e.user_data)
+
+-- an entry takes at least 12 and at most 74 bytes
+pub record IsShort (e : List ℕ) : Type 0 where
+  pub least : 12 ≤ length e
+  pub most : length e ≤ 74
+
+short_entry : (e : EntryContents) → IsEntry e → IsShort (entry_bytes e)
+short_entry e is = record { least = omega (arith, length-entry e is); most = omega (arith, length-entry e is) }
+
+pub entries_short : (entries : List EntryContents) → All IsEntry entries → All IsShort (all_entries entries)
+entries_short [] each = All-cons IsShort last_entry [] (record { least = omega arith; most = omega arith }) (All-nil IsShort)
+entries_short (e ∷ others) each = All-cons IsShort (entry_bytes e) (all_entries others) (short_entry e (All-head IsEntry e others each))
+    (entries_short others (All-tail IsEntry e others each))
 
 pub none_goes : (used : ℕ) → going_in used [] ≡ 0
 unfolding going_in
@@ -28,12 +78,12 @@ pub record GoesIn (used : ℕ) (entries : List (List ℕ)) (n : ℕ) : Type 0 wh
   pub room : used ≤ 256 → used + length (concat (take n entries)) ≤ 256
 
 none_in : (used : ℕ) (entries : List (List ℕ)) → GoesIn used entries 0
-none_in used entries = record { within = omega arith; room = λ h. omega (arith, h) }
+none_in used entries = record { within = omega arith; room = λ h. omega arith }
 
 one_in : (used : ℕ) (e : List ℕ) (others : List (List ℕ)) (n : ℕ) → used + length e ≤ 256 → GoesIn (used + length e) others n
     → GoesIn used (e ∷ others) (suc n)
 one_in used e others n fits more = record {
-  within = omega (arith, more.within);
+  within = omega arith;
   room = λ _. omega (arith, more.room fits, length-append e (concat (take n others)));
 }
 
@@ -44,8 +94,7 @@ goes_in used (e ∷ others) = by (cases_lt 256 (used + length e)) (goes_in (used
     by : (256 < used + length e) ⊎ (used + length e ≤ 256) → GoesIn (used + length e) others (going_in (used + length e) others)
         → GoesIn used (e ∷ others) (going_in used (e ∷ others))
     by (inl over) more = subst (GoesIn used (e ∷ others)) (sym (is_full used e others over)) (none_in used (e ∷ others))
-    by (inr fits) more =
-        subst (GoesIn used (e ∷ others)) (sym (one_goes used e others fits)) (one_in used e others _ fits more)
+    by (inr fits) more = subst (GoesIn used (e ∷ others)) (sym (one_goes used e others fits)) (one_in used e others _ fits more)
 
 -- A loop over entries that has passed so many, with so many bytes of the block used by them.
 module _ (left : List (List ℕ)) (k used : ℕ) (so_far : going_in 2 left ≡ k + going_in used (drop k left)) where
@@ -67,10 +116,7 @@ module _ (left : List (List ℕ)) (k used : ℕ) (so_far : going_in 2 left ≡ k
 
 -- the bytes of one entry more
 pub concat_more : (left : List (List ℕ)) (k : ℕ) → k < length left → concat (take (k + 1) left) ≡ concat (take k left) ++ get_or left k []
-concat_more left k there =
-    let e = get_or left k [] in
-    ap concat (take_more left k [] there) ∙ concat-append (take k left) (e ∷ [])
-    ∙ ap (λ (xs : List ℕ). concat (take k left) ++ xs) (append-nil e)
+concat_more left k there = let e = get_or left k [] in cc (take_more left k [] there, concat-append (take k left) (e ∷ []), append-nil e)
 
 -- fewer entries have no more bytes
 pub concat_fewer : (k n : ℕ) (left : List (List ℕ)) → k ≤ n → length (concat (take k left)) ≤ length (concat (take n left))
@@ -81,15 +127,49 @@ concat_fewer (suc k) (suc n) (e ∷ others) within = omega (
   arith,
   length-append e (concat (take k others)),
   length-append e (concat (take n others)),
-  concat_fewer k n others (omega (arith, within)),
+  concat_fewer k n others (omega arith),
 )
 
 -- one entry more uses its bytes
 pub more_used : (left : List (List ℕ)) (k : ℕ) → k < length left
     → used_by (take (k + 1) left) ≡ used_by (take k left) + length (get_or left k [])
-more_used left k there =
-    omega (arith, ap length (concat_more left k there), length-append (concat (take k left)) (get_or left k []))
+more_used left k there = omega (arith, ap length (concat_more left k there), length-append (concat (take k left)) (get_or left k []))
 
 -- one at least goes into an empty block
 pub some_goes : (e : List ℕ) (others : List (List ℕ)) → length e ≤ 254 → 1 ≤ going_in 2 (e ∷ others)
-some_goes e others short = omega (arith, one_goes 2 e others (omega (arith, short)))
+some_goes e others short = omega (arith, one_goes 2 e others (omega arith))
+
+pub all_left : (entries : List (List ℕ)) → left_behind entries 0 ≡ entries
+unfolding left_behind
+all_left entries = refl
+
+pub one_behind : (entries : List (List ℕ)) (n : ℕ) → left_behind entries (suc n) ≡ left_behind (behind_block entries) n
+unfolding left_behind
+one_behind entries n = refl
+
+pub none_left : (n : ℕ) → left_behind [] n ≡ []
+none_left zero = all_left []
+none_left (suc n) = cc (one_behind [] n, none_goes 2, none_left n)
+
+module _ (all : List (List ℕ)) (next : ℕ) where
+  -- a block takes one at least
+  pub some_fit : All IsShort all → next < length all → 1 ≤ going_in 2 (drop next all)
+  some_fit each there =
+      let e = get_or all next [] in
+      let short = (All-get_or IsShort all next [] there each).most in
+      let some = some_goes e (drop (next + 1) all) (omega arith) in omega (arith, ap (going_in 2) (drop_more all next [] there))
+
+  pub some_left : next < length all → drop next all ≢ []
+  some_left there none = omega (arith, ap length none, length-drop next all)
+
+  -- what is left behind one block more
+  pub one_more : (blocks : ℕ) → ((n : ℕ) → left_behind all (blocks + n) ≡ left_behind (drop next all) n)
+      → (n : ℕ) → left_behind all (blocks + 1 + n) ≡ left_behind (drop (next + going_in 2 (drop next all)) all) n
+  one_more blocks left n =
+      let far : blocks + 1 + n ≡ blocks + suc n = omega arith in
+      cc (left (suc n), one_behind (drop next all) n, drop-drop (going_in 2 (drop next all)) next all)
+
+  -- nothing is left behind all of them
+  pub then_none : (blocks : ℕ) → ((n : ℕ) → left_behind all (blocks + n) ≡ left_behind (drop next all) n) → length all ≤ next
+      → (n : ℕ) → left_behind all (blocks + n) ≡ []
+  then_none blocks left past n = cc (left n, drop_all next all past, none_left n)

@@ -1,7 +1,6 @@
 -- The records of lines, one after another.
 use Rattle.std.proofs.Common.{◌≡◌, ◌∙◌, ◌<◌, ◌≤◌, ◌+◌, ◌-◌, ℕ, Bool, true, false, cond, List, [], ◌∷◌, ◌++◌, length, append_assoc}
-use Rattle.std.proofs.Common.{append-nil}
-use Rattle.std.proofs.Common.{ap, refl, sym, arith, Some, None, Result, Ok, Err, replicate, length-append, take}
+use Rattle.std.proofs.Common.{append-nil, ap, refl, sym, arith, Some, None, Result, Ok, Err, replicate, length-append, take}
 use Rattle.std.specs.Str.{is_utf8, chars, IsUtf8}
 use Rattle.std.proofs.lemmas.List.{take_all}
 use Rattle.std.proofs.lemmas.Bool.{lt-ltb, le-ltb}
@@ -49,25 +48,20 @@ module _ (size : ℕ) (text : List ℕ) (number : ℕ) (rest line after bytes : 
     (split : lines_of rest ≡ line ∷ lines_of after) where
   next : records_of size text ≡ joined bytes (and_records (number + 1) (record_of size line)
       (records_from size (number + 1 + 1) (lines_of after)))
-  next = h ∙ ap (joined bytes) (ap (records_from size (number + 1)) split ∙ one size (number + 1) line (lines_of after))
+  next = cc (one size (number + 1) line (lines_of after))
 
   -- one line more
   pub one_joined : (now : List ℕ) → PutsRecord (record_of size line) bytes now None → JoinedTo size text (number + 1) after now
-  one_joined now put =
-      next ∙ ap (λ r. joined bytes (and_records (number + 1) r (records_from size (number + 1 + 1) (lines_of after)))) put.1
-      ∙ shifted (number + 1) bytes put.0 (records_from size (number + 1 + 1) (lines_of after))
-      ∙ ap (λ l. joined l (records_from size (number + 1 + 1) (lines_of after))) (sym put.2)
+  one_joined now put = cc (next, shifted (number + 1) bytes put.0 (records_from size (number + 1 + 1) (lines_of after)))
 
   -- a line that is no record
   pub not_joined : (fault : TextLineFault) → record_of size line ≡ Err fault → records_of size text ≡ Err (Line (number + 1) fault)
-  not_joined fault is = next ∙ ap (λ r. joined bytes (and_records (number + 1) r (records_from size (number + 1 + 1) (lines_of after)))) is
+  not_joined fault is = cc (next)
 
 -- all lines are records
 pub all_joined : (size : ℕ) (text : List ℕ) (number : ℕ) (rest bytes : List ℕ) → rest ≡ [] → JoinedTo size text number rest bytes
     → records_of size text ≡ Ok bytes
-all_joined size text number rest bytes empty h =
-    h ∙ ap (joined bytes) (ap (λ r. records_from size (number + 1) (lines_of r)) empty ∙ none_left size (number + 1))
-    ∙ ap Ok (append-nil bytes)
+all_joined size text number rest bytes empty h = cc (none_left size (number + 1), append-nil bytes)
 
 -- The record of one line.
 module _ (size : ℕ) (line : List ℕ) where
@@ -92,36 +86,32 @@ module _ (size : ℕ) (line : List ℕ) where
   -- a line that is too long
   pub too_long : (bytes : List ℕ) → IsUtf8 line → codes_of (chars line) ≡ Some bytes → size < length bytes
       → record_of size line ≡ Err TooLong
-  too_long bytes is some long =
-      ap (record_with size) (codes_are is ∙ some)
-      ∙ ap (λ t. cond t (Err TooLong) (Ok (padded size bytes))) (lt-ltb size (length bytes) long)
+  too_long bytes is some long = cc (codes_are is, lt-ltb size (length bytes) long)
 
   -- a line that fits
   pub is_record : (bytes : List ℕ) → IsUtf8 line → codes_of (chars line) ≡ Some bytes → length bytes ≤ size
       → record_of size line ≡ Ok (padded size bytes)
-  is_record bytes is some short =
-      ap (record_with size) (codes_are is ∙ some)
-      ∙ ap (λ t. cond t (Err TooLong) (Ok (padded size bytes))) (le-ltb size (length bytes) short)
+  is_record bytes is some short = cc (codes_are is, le-ltb size (length bytes) short)
 
 -- The same, of what was put behind other bytes.
 module _ (size : ℕ) (line text before now : List ℕ) (is : IsUtf8 line) (same_text : text ≡ line)
     (put : PutsCodes (codes_of (chars text)) before now true) where
   codes_there : codes_of (chars line) ≡ Some put.0
-  codes_there = ap (λ l. codes_of (chars l)) (sym same_text) ∙ put.1
+  codes_there = cc
 
   many : length now ≡ length before + length put.0
   many = ap length put.2 ∙ length-append before put.0
 
   pub is_too_long : size < length now - length before → record_of size line ≡ Err TooLong
-  is_too_long long = too_long size line put.0 is codes_there (omega (arith, long, many))
+  is_too_long long = too_long size line put.0 is codes_there (omega (arith, many))
 
   -- blanks are put behind its bytes
   pub is_filled : (after : List ℕ) (n : ℕ) → length now - length before ≤ size → n ≡ length before + size
       → after ≡ take n now ++ replicate (n - length now) 0x40 → PutsRecord (record_of size line) before after None
   is_filled after n short end e = (
     padded size put.0,
-    is_record size line put.0 is codes_there (omega (arith, short, many)),
-    e ∙ ap (λ l. l ++ replicate (n - length now) 0x40) (take_all n now (omega (arith, short, many, end)))
-        ∙ ap (λ n. now ++ replicate n 0x40) {y = size - length put.0} (omega (arith, short, many, end))
+    is_record size line put.0 is codes_there (omega (arith, many)),
+    e ∙ ap (λ l. l ++ replicate (n - length now) 0x40) (take_all n now (omega (arith, many)))
+        ∙ ap (λ n. now ++ replicate n 0x40) {y = size - length put.0} (omega (arith, many))
         ∙ ap (λ l. l ++ replicate (size - length put.0) 0x40) put.2 ∙ append_assoc before put.0 (replicate (size - length put.0) 0x40),
   )

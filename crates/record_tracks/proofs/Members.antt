@@ -1,10 +1,10 @@
 -- The parts of a library: its directory and its members.
-use Rattle.std.proofs.Common.{◌≡◌, ◌∙◌, ap, sym, refl, subst, ℕ, ◌+◌, ◌*◌, ◌/◌, ◌≤◌, ◌<◌, List, [], ◌∷◌, ◌++◌, length}
-use Rattle.std.proofs.Common.{Bool, true, false, cond, nat_lt}
-use Rattle.std.proofs.Common.{map, take, drop, get_or, replicate, arith, All, append_assoc, length-append, length-take, length-drop}
+use Rattle.std.proofs.Common.{◌≡◌, ◌∙◌, ap, sym, refl, subst, ℕ, ◌+◌, ◌*◌, ◌/◌, ◌≤◌, ◌<◌, List, [], ◌∷◌, ◌++◌, length, Bool, true, false}
+use Rattle.std.proofs.Common.{cond, nat_lt, map, take, drop, get_or, replicate, arith, All, append_assoc, length-append, length-take}
+use Rattle.std.proofs.Common.{length-drop, inl, inr, ◌-◌, nat_le, None, Some}
 use Rattle.std.proofs.lemmas.Grind.{flat_map-append}
-use Rattle.std.proofs.lemmas.List.{drop_more, take-append-drop, length-map, get_or-map, map-append}
-use Rattle.std.proofs.lemmas.List.{ext_get_or, length-replicate, get_or-replicate}
+use Rattle.std.proofs.lemmas.List.{drop_more, take-append-drop, length-map, get_or-map, map-append, ext_get_or, length-replicate}
+use Rattle.std.proofs.lemmas.List.{get_or-replicate}
 use Rattle.std.proofs.lemmas.List.FromFn.{length-map-range_with_len, get_or-map-range_with_len}
 use Rattle.std.proofs.lemmas.List.Elements.{All-nil, All-cons, All-head, All-tail, All-append, All-from_get_or}
 use Rattle.ckd_track.specs.declared.model.DriveModel.{DriveModel}
@@ -12,13 +12,27 @@ use Rattle.ckd_track.specs.declared.model.DriveModel.TheVariants.{D2311, D2314}
 use Rattle.ckd_track.specs.Charges.{key_overhead_of}
 use Rattle.dasd_extract.specs.declared.blocks.ExtractedForm.TheVariants as form
 use Rattle.record_tracks.specs.declared.libraries.NewMember.{NewMember}
-use Rattle.record_tracks.specs.Records.{Areas, end_of_file, GoesOn}
-use Rattle.record_tracks.specs.ReadBack.{IsWritten, IsPart}
-use Rattle.record_tracks.proofs.Goes.{end_goes}
-use Rattle.record_tracks.proofs.Listed.{all_go}
-use Rattle.record_tracks.specs.Library.{directory_area, directory_areas, with_end, member_areas, members_areas}
-use Rattle.record_tracks.specs.Library.{library_areas, blocks_of_member, first_record, MemberGoesOn}
-use Rattle.record_tracks.proofs.Standing.{SameLengths}
+use Rattle.record_tracks.specs.Records.{Areas, end_of_file, GoesOn, all_areas, RecordGoesOn}
+use Rattle.record_tracks.specs.ReadBack.{IsWritten, IsPart, IsLoaded}
+use Rattle.record_tracks.proofs.Listed.{end_goes, all_go, length-all}
+use Rattle.record_tracks.specs.Library.{directory_area, directory_areas, with_end, member_areas, members_areas, library_areas}
+use Rattle.record_tracks.specs.Library.{blocks_of_member, first_record, MemberGoesOn}
+use Rattle.record_tracks.proofs.Standing.{SameLengths, address_stands, is_taken, in_order, address_is}
+use Rattle.ckd_track.specs.declared.geometries.Geometry.{Geometry}
+use Rattle.volume_labels.specs.declared.fields.Extent.{Extent}
+use Rattle.volume_labels.specs.declared.fields.RelativeAddress.{RelativeAddress}
+use Rattle.record_tracks.specs.Tracks.{StandsAt}
+use Rattle.record_tracks.specs.Addresses.{address_of}
+use Rattle.record_tracks.specs.LibraryRead.{HasRecords, IsDirectoryRead, AreMembersRead}
+use Rattle.record_tracks.proofs.Reading.{read_back, read_as_data, first_stands}
+use Rattle.std.proofs.lemmas.Bool.Decides.{nat_tests}
+use Rattle.record_tracks.specs.declared.records.NewRecord.{NewRecord}
+use Rattle.record_tracks.specs.declared.addresses.Placed.{Placed}
+use Rattle.record_tracks.specs.declared.library_faults.LibraryFault.{LibraryFault}
+use Rattle.record_tracks.specs.declared.library_faults.LibraryFault.TheVariants as fault
+use Rattle.record_tracks.specs.declared.libraries.NewLibrary.{NewLibrary}
+use Rattle.record_tracks.specs.MemberEntries.{blank_directory, blank_areas}
+use Rattle.record_tracks.specs.Placed.{AreRecords, ArePlaced}
 
 -- The blocks of a directory.
 module _ (directory : List ℕ) where
@@ -28,12 +42,11 @@ module _ (directory : List ℕ) where
   block_is : (k : ℕ) → k < length (directory_areas directory)
       → get_or (directory_areas directory) k end_of_file ≡ directory_area directory k
   block_is k there = get_or-map-range_with_len (directory_area directory) 0 (length directory / 264) k k end_of_file
-      (omega (arith, there, length-directory)) (omega arith)
+      (omega (arith, length-directory)) (omega arith)
 
   block_size : (k : ℕ) → k < length (directory_areas directory) → length (take 264 (drop (k * 264) directory)) ≡ 264
   block_size k there = omega (
     arith,
-    there,
     length-directory,
     length-take 264 (drop (k * 264) directory),
     length-drop (k * 264) directory,
@@ -43,8 +56,7 @@ module _ (directory : List ℕ) where
   directory_written = All-from_get_or (IsWritten form.Directory) (directory_areas directory) end_of_file (λ k there.
       subst (IsWritten form.Directory) (sym (block_is k there)) (
       let b = take 264 (drop (k * 264) directory) in
-      let size = block_size k there in
-      (omega (arith, size, length-take 8 b), omega (arith, size, length-drop 8 b))))
+      let size = block_size k there in (omega (arith, length-take 8 b), omega (arith, length-drop 8 b))))
 
 at_most : (b : Bool) (n : ℕ) → cond b n 0 ≤ n
 at_most true n = omega arith
@@ -53,14 +65,14 @@ at_most false n = omega arith
 -- A record goes on a track of either drive, if its lengths are no more than these.
 small_goes : (model : DriveModel) (a : Areas) → length a.key_area ≤ 8 → length a.data_area ≤ 256 → GoesOn model a
 small_goes D2311 a key few = record {
-  key = omega (arith, key);
+  key = omega arith;
   most = (let extra : key_overhead_of D2311 (length a.key_area) ≤ 20 = at_most (nat_lt 0 (length a.key_area)) 20 in
-      omega (arith, key, few, extra));
+      omega arith);
 }
 small_goes D2314 a key few = record {
-  key = omega (arith, key);
+  key = omega arith;
   most = (let extra : key_overhead_of D2314 (length a.key_area) ≤ 45 = at_most (nat_lt 0 (length a.key_area)) 45 in
-      omega (arith, key, few, extra));
+      omega arith);
 }
 
 with_end_goes : (model : DriveModel) (part : List Areas) → All (GoesOn model) part → All (GoesOn model) (with_end part)
@@ -72,20 +84,17 @@ directory_goes model directory = All-from_get_or (GoesOn model) (directory_areas
     subst (GoesOn model) (sym (block_is directory k there)) (
     let b = take 264 (drop (k * 264) directory) in
     let size = block_size directory k there in
-    small_goes model (directory_area directory k) (omega (arith, size, length-take 8 b)) (omega (arith, size, length-drop 8 b))))
+    small_goes model (directory_area directory k) (omega (arith, length-take 8 b)) (omega (arith, length-drop 8 b))))
 
-members_go : (model : DriveModel) (members : List NewMember) → All (MemberGoesOn model) members
-    → All (GoesOn model) (members_areas members)
+members_go : (model : DriveModel) (members : List NewMember) → All (MemberGoesOn model) members → All (GoesOn model) (members_areas members)
 members_go model [] each = All-nil (GoesOn model)
-members_go model (m ∷ others) each =
-    All-append (GoesOn model) (with_end (member_areas m)) (members_areas others)
+members_go model (m ∷ others) each = All-append (GoesOn model) (with_end (member_areas m)) (members_areas others)
     (with_end_goes model (member_areas m) (all_go model m.records.now (All-head (MemberGoesOn model) m others each)))
     (members_go model others (All-tail (MemberGoesOn model) m others each))
 
 pub library_goes : (model : DriveModel) (directory : List ℕ) (members : List NewMember) → All (MemberGoesOn model) members
     → All (GoesOn model) (library_areas directory members)
-library_goes model directory members each =
-    All-append (GoesOn model) (with_end (directory_areas directory)) (members_areas members)
+library_goes model directory members each = All-append (GoesOn model) (with_end (directory_areas directory)) (members_areas members)
     (with_end_goes model (directory_areas directory) (directory_goes model directory))
     (members_go model members each)
 
@@ -118,12 +127,8 @@ module _ (directory : List ℕ) (members : List NewMember) (m : ℕ) (there : m 
   split_at =
       let one = λ (x : NewMember). with_end (member_areas x) in
       let is : blocks ≡ member_areas (get_or members m no_member) = get_or-map member_areas members m no_member [] there in
-      ap members_areas (sym (take-append-drop m members))
-      ∙ flat_map-append one (take m members) (drop m members)
-      ∙ ap (λ (xs : List NewMember). members_areas (take m members) ++ members_areas xs) (drop_more members m no_member there)
-      ∙ ap (λ (xs : List Areas). members_areas (take m members) ++ xs)
-      (append_assoc (member_areas (get_or members m no_member)) (end_of_file ∷ []) others)
-      ∙ ap (λ (xs : List Areas). members_areas (take m members) ++ (xs ++ (end_of_file ∷ others))) (sym is)
+      let two = append_assoc (member_areas (get_or members m no_member)) (end_of_file ∷ []) others in
+      cc (take-append-drop m members, flat_map-append one (take m members) (drop m members), drop_more members m no_member there)
 
   -- from one of its blocks on
   pub member_part : (k : ℕ) → k ≤ length blocks
@@ -131,14 +136,15 @@ module _ (directory : List ℕ) (members : List NewMember) (m : ℕ) (there : m 
   member_part k within =
       let rest = end_of_file ∷ others in
       let whole : take k blocks ++ (drop k blocks ++ rest) ≡ blocks ++ rest =
-      sym (append_assoc (take k blocks) (drop k blocks) rest) ∙ ap (λ (xs : List Areas). xs ++ rest) (take-append-drop k blocks) in
+      cc (append_assoc (take k blocks) (drop k blocks) rest, take-append-drop k blocks) in
       record {
         before = head ++ take k blocks;
         behind = others;
-        all = ap (λ (xs : List Areas). with_end (directory_areas directory) ++ xs) split_at
-            ∙ sym (append_assoc (with_end (directory_areas directory)) (members_areas (take m members)) (blocks ++ rest))
-            ∙ ap (λ (xs : List Areas). head ++ xs) (sym whole)
-            ∙ sym (append_assoc head (take k blocks) (drop k blocks ++ rest));
+        all = cc (
+          split_at,
+          append_assoc (with_end (directory_areas directory)) (members_areas (take m members)) (blocks ++ rest),
+          append_assoc head (take k blocks) (drop k blocks ++ rest),
+        );
         number = omega (
           arith,
           length-append head (take k blocks),
@@ -146,7 +152,6 @@ module _ (directory : List ℕ) (members : List NewMember) (m : ℕ) (there : m 
           length-append (directory_areas directory) (end_of_file ∷ []),
           length-directory directory,
           length-take k blocks,
-          within,
         );
       }
 
@@ -155,33 +160,31 @@ key_lengths : (directory : List ℕ) → map (λ a. length a.key_area) (director
 key_lengths directory =
     let key : Areas → ℕ = λ a. length a.key_area in
     let all = directory_areas directory in
-    let size = length-map all key ∙ length-directory directory in
-    ext_get_or 0 (map key all) (replicate (length directory / 264) 8)
+    let size = length-map all key ∙ length-directory directory in ext_get_or 0 (map key all) (replicate (length directory / 264) 8)
     (size ∙ sym (length-replicate (length directory / 264) 8))
     (λ k there.
-    let here : k < length all = omega (arith, there, length-map all key) in
+    let here : k < length all = omega (arith, length-map all key) in
     let b = take 264 (drop (k * 264) directory) in
     let eight : length (take 8 b) ≡ 8 = omega (arith, block_size directory k here, length-take 8 b) in
     get_or-map key all k end_of_file 0 here ∙ ap key (block_is directory k here) ∙ eight
-    ∙ sym (get_or-replicate (length directory / 264) k 8 0 (omega (arith, here, length-directory directory))))
+    ∙ sym (get_or-replicate (length directory / 264) k 8 0 (omega (arith, length-directory directory))))
 
 data_lengths : (directory : List ℕ) → map (λ a. length a.data_area) (directory_areas directory) ≡ replicate (length directory / 264) 256
 data_lengths directory =
     let bytes : Areas → ℕ = λ a. length a.data_area in
     let all = directory_areas directory in
-    let size = length-map all bytes ∙ length-directory directory in
-    ext_get_or 0 (map bytes all) (replicate (length directory / 264) 256)
+    let size = length-map all bytes ∙ length-directory directory in ext_get_or 0 (map bytes all) (replicate (length directory / 264) 256)
     (size ∙ sym (length-replicate (length directory / 264) 256))
     (λ k there.
-    let here : k < length all = omega (arith, there, length-map all bytes) in
+    let here : k < length all = omega (arith, length-map all bytes) in
     let b = take 264 (drop (k * 264) directory) in
     let rest : length (drop 8 b) ≡ 256 = omega (arith, block_size directory k here, length-drop 8 b) in
     get_or-map bytes all k end_of_file 0 here ∙ ap bytes (block_is directory k here) ∙ rest
-    ∙ sym (get_or-replicate (length directory / 264) k 256 0 (omega (arith, here, length-directory directory))))
+    ∙ sym (get_or-replicate (length directory / 264) k 256 0 (omega (arith, length-directory directory))))
 
 -- what stands behind has the same lengths
 behind_same : (f : Areas → ℕ) (xs ys zs : List Areas) → map f xs ≡ map f ys → map f (xs ++ zs) ≡ map f (ys ++ zs)
-behind_same f xs ys zs same = map-append f xs zs ∙ ap (λ (ns : List ℕ). ns ++ map f zs) same ∙ sym (map-append f ys zs)
+behind_same f xs ys zs same = cc (map-append f xs zs, map-append f ys zs)
 
 pub same_library : (one other : List ℕ) (members : List NewMember) → length one ≡ length other
     → SameLengths (library_areas one members) (library_areas other members)
@@ -189,12 +192,178 @@ same_library one other members same =
     let key : Areas → ℕ = λ a. length a.key_area in
     let bytes : Areas → ℕ = λ a. length a.data_area in
     let ends = end_of_file ∷ [] in
-    let all = members_areas members in
-    record {
+    let all = members_areas members in record {
       keys = behind_same key (with_end (directory_areas one)) (with_end (directory_areas other)) all
           (behind_same key (directory_areas one) (directory_areas other) ends
-          (key_lengths one ∙ ap (λ (n : ℕ). replicate (n / 264) 8) same ∙ sym (key_lengths other)));
+          (cc (key_lengths one, key_lengths other)));
       bytes = behind_same bytes (with_end (directory_areas one)) (with_end (directory_areas other)) all
           (behind_same bytes (directory_areas one) (directory_areas other) ends
-          (data_lengths one ∙ ap (λ (n : ℕ). replicate (n / 264) 256) same ∙ sym (data_lengths other)));
+          (cc (data_lengths one, data_lengths other)));
     }
+
+-- behind a part there is one record at least, which is its end of file
+pub end_there : (areas part : List Areas) (first : ℕ) → IsPart areas part first → first + length part < length areas
+end_there areas part first is = omega (
+  arith,
+  ap length is.all,
+  length-append is.before (part ++ (end_of_file ∷ is.behind)),
+  length-append part (end_of_file ∷ is.behind),
+)
+
+module _ (model : DriveModel) (directory : List ℕ) (members : List NewMember) (goes : All (MemberGoesOn model) members) where
+  abbrev areas : List Areas
+  areas = library_areas directory members
+
+  each : All (GoesOn model) areas
+  each = library_goes model directory members goes
+
+  -- the tracks up to that of a record have their records
+  loaded_to : (k : ℕ) (a : RelativeAddress) (g : Geometry) (extents : List Extent) (slots : List (List ℕ))
+      → StandsAt model areas k a.track a.number → HasRecords model areas g extents slots → IsLoaded g extents slots areas (a.track + 1)
+  loaded_to k a g extents slots stands has i before =
+      has.loaded i (omega (arith, is_taken model areas has.tracks k a.track a.number has.takes stands))
+
+  pub directory_read : IsDirectoryRead model directory members
+  directory_read g extents slots has within =
+      let part = directory_areas directory in
+      let whole = directory_part directory members in
+      let k = length directory / 264 in
+      let e : k ≡ 0 + length part = omega (arith, length-directory directory) in
+      let end = address_of model areas k in
+      let to = address_stands model areas each k (omega (arith, end_there areas part 0 whole)) in
+      let to_here = subst (λ (n : ℕ). StandsAt model areas n end.track end.number) e to in
+      read_as_data form.Directory model areas each part 0 0 1 0 end.track end.number whole (directory_written directory)
+      (first_stands model areas each (omega (arith, end_there areas part 0 whole))) (inr (refl, refl)) to_here g extents slots 512 has.same
+      (omega arith) (loaded_to k end g extents slots to has)
+
+  pub members_read : AreMembersRead model directory members
+  members_read f text m k there few g extents slots has most within written =
+      let blocks = blocks_of_member members m in
+      let part = drop k blocks in
+      let first = first_record (length directory / 264) members m in
+      let whole = member_part directory members m there k few in
+      let some = end_there areas part (first + k) whole in
+      let e : first + length blocks ≡ first + k + length part = omega (arith, length-drop k blocks) in
+      let start = address_of model areas (first + k) in
+      let end = address_of model areas (first + length blocks) in
+      let from = address_stands model areas each (first + k) (omega arith) in
+      let to = address_stands model areas each (first + length blocks) (omega arith) in
+      let to_here = subst (λ (n : ℕ). StandsAt model areas n end.track end.number) e to in
+      read_back model areas each f text part (first + k) start.track start.number start.number end.track end.number whole written from
+      (inl refl) to_here g extents slots most has.same within (loaded_to (first + length blocks) end g extents slots to has)
+
+pub length-blank : (l : NewLibrary) → length (blank_directory l) / 264 ≡ l.directory_blocks
+length-blank l = omega (arith, length-replicate {A = ℕ} (l.directory_blocks * 264) 0)
+
+pub length-blank_areas : (l : NewLibrary) → length (blank_areas l) ≡ l.directory_blocks + 1 + length (members_areas l.members.now)
+length-blank_areas l = let directory = blank_directory l in omega (
+  arith,
+  length-append (with_end (directory_areas directory)) (members_areas l.members.now),
+  length-append (directory_areas directory) (end_of_file ∷ []),
+  length-directory directory,
+  length-blank l,
+)
+
+-- the members before one, and those from it on
+pub length-parts : (members : List NewMember) (m : ℕ)
+    → length (members_areas members) ≡ length (members_areas (take m members)) + length (members_areas (drop m members))
+length-parts members m =
+    let one = λ (x : NewMember). with_end (member_areas x) in
+    let two = length-append (members_areas (take m members)) (members_areas (drop m members)) in
+    cc (take-append-drop m members, flat_map-append one (take m members) (drop m members))
+
+-- one of them with its end of file, and those behind it
+pub length-next : (members : List NewMember) (k : ℕ) (d : NewMember) → k < length members → length (members_areas (drop k members))
+    ≡ length (get_or members k d).records.now + 1 + length (members_areas (drop (k + 1) members))
+length-next members k d there =
+    let m = get_or members k d in
+    let others = members_areas (drop (k + 1) members) in
+    ap (λ (xs : List NewMember). length (members_areas xs)) (drop_more members k d there) ∙ omega (
+      arith,
+      length-append (with_end (member_areas m)) others,
+      length-append (member_areas m) (end_of_file ∷ []),
+      length-all m.records.now,
+    )
+
+-- a member has its blocks, and an end of file behind them
+pub length-first : (members : List NewMember) (m : ℕ) → m < length members
+    → length (blocks_of_member members m) < length (members_areas (drop m members))
+length-first members m there =
+    let is = get_or-map member_areas members m no_member [] there in
+    omega (arith, length-next members m no_member there, ap length is, length-all (get_or members m no_member).records.now)
+
+-- the first record of a member, counted from the end of all
+pub length-behind : (l : NewLibrary) (m : ℕ)
+    → first_record l.directory_blocks l.members.now m + length (members_areas (drop m l.members.now)) ≡ length (blank_areas l)
+length-behind l m = omega (arith, length-blank_areas l, length-parts l.members.now m)
+
+-- a block of a member is one of the records, and so is its end of file
+pub block_there : (l : NewLibrary) (m k : ℕ) → m < length l.members.now → k ≤ length (blocks_of_member l.members.now m)
+    → first_record l.directory_blocks l.members.now m + k < length (blank_areas l)
+block_there l m k there within =
+    let first = first_record (length (blank_directory l) / 264) l.members.now m in
+    let blocks = blocks_of_member l.members.now m in omega (
+      arith,
+      end_there (blank_areas l) (drop k blocks) (first + k) (member_part (blank_directory l) l.members.now m there k within),
+      length-blank l,
+    )
+
+pub too_far : (n : ℕ) (f : LibraryFault) → 65536 ≤ n → Some f ≡ cond (nat_le 65536 n) (Some f) None
+too_far n f far = let is : nat_le 65536 n ≡ true = grind (arith, nat_tests) in rw is refl
+
+pub near : (n : ℕ) (f : LibraryFault) → n < 65536 → None ≡ cond (nat_le 65536 n) (Some f) None
+near n f below = let is : nat_le 65536 n ≡ false = grind (arith, nat_tests) in rw is refl
+
+-- no address is too far, if that of the last record is not
+not_too_far : (n : ℕ) (f : LibraryFault) → cond (nat_le 65536 n) (Some f) None ≡ None → n < 65536
+not_too_far n f none = by (nat_le 65536 n) refl none
+  where
+    by : (b : Bool) → nat_le 65536 n ≡ b → cond b (Some f) None ≡ None → n < 65536
+    by true is h = absurd (cc)
+    by false is h = grind (arith, nat_tests)
+
+module _ (p : Placed) (are : AreRecords p) where
+  abbrev l : NewLibrary
+  l = p.library.now
+
+  pub all_go_on : All (GoesOn p.model) (blank_areas l)
+  all_go_on = subst (All (GoesOn p.model)) are.records (all_go p.model p.records.now are.go)
+
+  pub length-records : length p.records.now ≡ length (blank_areas l)
+  length-records = cc (length-all p.records.now)
+
+  -- where a record of the list stands is its address
+  pub is_address : (k track number : ℕ) → k < length p.records.now → StandsAt p.model (all_areas p.records.now) k track number
+      → address_of p.model (blank_areas l) k ≡ record { track = track; number = number }
+  is_address k track number there stands = address_is p.model (blank_areas l) all_go_on k track number (omega (arith, length-records))
+      (subst (λ (xs : List Areas). StandsAt p.model xs k track number) are.records stands)
+
+-- the last record
+pub last_track : (p : Placed) (are : AreRecords p) (track number : ℕ)
+    → StandsAt p.model (all_areas p.records.now) (length p.records.now - 1) track number
+    → (address_of p.model (blank_areas p.library.now) (length (blank_areas p.library.now) - 1)).track ≡ track
+last_track p are track number stands =
+    let l = p.library.now in
+    let size = length-records p are in
+    let is = is_address p are (length p.records.now - 1) track number (omega (arith, length-blank_areas l)) stands in
+    ap (λ (n : ℕ). (address_of p.model (blank_areas l) (n - 1)).track) (sym size) ∙ ap (λ (a : RelativeAddress). a.track) is
+
+pub is_near : (p : Placed) → ArePlaced p → (k track number : ℕ) → k < length p.records.now
+    → StandsAt p.model (all_areas p.records.now) k track number → track < 65536
+is_near p placed k track number there stands =
+    let areas = blank_areas p.library.now in
+    let far = length areas - 1 in
+    let last = address_of p.model areas far in
+    let size = length-records p placed.are in omega (
+      arith,
+      not_too_far last.track fault.TooManyTracks placed.within,
+      in_order p.model areas k far track number last.track last.number
+          (subst (λ (xs : List Areas). StandsAt p.model xs k track number) placed.are.records stands)
+          (address_stands p.model areas (all_go_on p placed.are) far (omega arith)) (omega arith),
+    )
+
+-- the records of a library with zeros in place of its directory
+pub are_records : (p : Placed) (items : List NewRecord) (directory zeros : List ℕ) → p.records.now ≡ items
+    → all_areas items ≡ library_areas directory p.library.now.members.now → directory ≡ zeros → zeros ≡ blank_directory p.library.now
+    → All (RecordGoesOn p.model) items → AreRecords p
+are_records p items directory zeros same are is blank go = record { records = cc; go = subst (All (RecordGoesOn p.model)) (sym same) go }

@@ -1,6 +1,6 @@
 -- A library is read by its own directory.
-use Rattle.std.proofs.Common.{◌≡◌, ◌∙◌, ap, sym, refl, subst, ℕ, zero, suc, ◌+◌, ◌*◌, ◌/◌, ◌%◌, ◌≤◌, ◌<◌, List, [], ◌∷◌, ◌++◌, length}
-use Rattle.std.proofs.Common.{map, flat_map, take, drop, get_or, slice_index, arith, All, Some, append_assoc, append-nil, length-append}
+use Rattle.std.proofs.Common.{◌≡◌, ◌∙◌, ap, sym, refl, subst, ℕ, zero, suc, ◌+◌, ◌*◌, ◌/◌, ◌%◌, ◌≤◌, ◌<◌, List, [], ◌∷◌, ◌++◌, length, map}
+use Rattle.std.proofs.Common.{flat_map, take, drop, get_or, slice_index, arith, All, append_assoc, append-nil, length-append}
 use Rattle.std.specs.List.{concat, range_with_len}
 use Rattle.std.proofs.lemmas.List.{take_at, drop_at, length-replicate, length-take-le, get_or_append_left}
 use Rattle.std.proofs.lemmas.List.Concat.{get_or-flat_map}
@@ -11,11 +11,8 @@ use Rattle.ckd_track.specs.declared.geometries.Geometry.{Geometry}
 use Rattle.volume_labels.specs.declared.fields.Extent.{Extent}
 use Rattle.volume_labels.specs.declared.fields.RelativeAddress.{RelativeAddress}
 use Rattle.volume_labels.specs.Fields.{number_at, relative_address_at}
-use Rattle.volume_labels.specs.Directories.{entries_of}
-use Rattle.dasd_extract.specs.declared.stops.Cause.TheVariants.{EndOfFile}
-use Rattle.dasd_extract.specs.Written.{Written, stop_at}
 use Rattle.dasd_extract.specs.Members as members
-use Rattle.dasd_extract.specs.Walk.{wanted, source_written}
+use Rattle.dasd_extract.specs.Walk.{source_written}
 use Rattle.record_tracks.specs.Records.{Areas}
 use Rattle.record_tracks.specs.ReadBack.{ended_by_file}
 use Rattle.record_tracks.specs.ReadBack as tracks
@@ -23,7 +20,7 @@ use Rattle.record_tracks.specs.Entries.{all_entries}
 use Rattle.record_tracks.specs.Directory.{going_in, blocks_of, left_behind, behind_block}
 use Rattle.record_tracks.specs.Directory as blocks
 use Rattle.record_tracks.specs.DirectoryFaults.{AreEntries}
-use Rattle.record_tracks.proofs.Pieces.{IsShort, entries_short}
+use Rattle.record_tracks.proofs.Going.{IsShort, entries_short}
 use Rattle.record_tracks.proofs.DirectoryReading.{no_blocks, more_blocks, length-block, read_back}
 use Rattle.record_tracks.specs.declared.libraries.MemberEntry.{MemberEntry}
 use Rattle.record_tracks.specs.declared.libraries.NewLibrary.{NewLibrary}
@@ -32,13 +29,11 @@ use Rattle.record_tracks.specs.Library.{directory_area, directory_areas, blocks_
 use Rattle.record_tracks.specs.Addresses.{address_of}
 use Rattle.record_tracks.specs.MemberEntries.{blank_directory, blank_areas, block_address, note_bytes, entry_notes, entry_user_data}
 use Rattle.record_tracks.specs.MemberEntries.{directory_entries, directory_bytes}
-use Rattle.record_tracks.specs.LibraryRead.{HasRecords, own_areas, IsReadFrom, IsLibraryRead}
-use Rattle.record_tracks.specs.LibraryRead.{directory_end, own_directory_end, HasEntries}
+use Rattle.record_tracks.specs.LibraryRead.{HasRecords, own_areas, IsReadFrom, IsLibraryRead, directory_end, own_directory_end, HasEntries}
 use Rattle.record_tracks.specs.Placed.{Leads}
 use Rattle.record_tracks.proofs.Parted.{length-notes}
 use Rattle.record_tracks.proofs.Standing.{same_address}
-use Rattle.record_tracks.proofs.Members.{same_library}
-use Rattle.record_tracks.proofs.LibraryRead.{directory_read, members_read}
+use Rattle.record_tracks.proofs.Members.{same_library, directory_read, members_read}
 
 -- a block of a directory has 264 bytes
 abbrev IsWhole : List ℕ → Type 0
@@ -63,12 +58,11 @@ cut_again [] front j each at = refl
 cut_again (b ∷ bs) front j each at =
     let whole = All-head IsWhole b bs each in
     let this : take 264 (drop (j * 264) (front ++ (b ++ concat bs))) ≡ b =
-    ap (take 264) (drop_at front (b ++ concat bs) (j * 264) at) ∙ take_at b (concat bs) 264 whole in
-    let others = cut_again bs (front ++ b) (j + 1) (All-tail IsWhole b bs each) (omega (arith, length-append front b, whole, at)) in
+    cc (drop_at front (b ++ concat bs) (j * 264) at, take_at b (concat bs) 264 whole) in
+    let others = cut_again bs (front ++ b) (j + 1) (All-tail IsWhole b bs each) (omega (arith, length-append front b, whole)) in
     ap (λ (x : List ℕ). area_in x ∷ map (directory_area (front ++ (b ++ concat bs))) (range_with_len (j + 1) (length bs))) this
     ∙ ap (λ (xs : List ℕ). area_in b ∷ map (directory_area xs) (range_with_len (j + 1) (length bs)))
-    (sym (append_assoc front b (concat bs)))
-    ∙ ap (λ (xs : List Areas). area_in b ∷ xs) others
+    (sym (append_assoc front b (concat bs))) ∙ ap (λ (xs : List Areas). area_in b ∷ xs) others
 
 all_whole : (left : List (List ℕ)) (n : ℕ) → All IsShort left → All IsWhole (blocks_of left n)
 all_whole left zero short = subst (All IsWhole) (sym (no_blocks left)) (All-nil IsWhole)
@@ -78,7 +72,7 @@ all_whole left (suc n) short = subst (All IsWhole) (sym (more_blocks left n))
 
 length-blocks : (left : List (List ℕ)) (n : ℕ) → length (blocks_of left n) ≡ n
 length-blocks left zero = ap length (no_blocks left)
-length-blocks left (suc n) = ap length (more_blocks left n) ∙ ap (λ (k : ℕ). suc k) (length-blocks (behind_block left) n)
+length-blocks left (suc n) = cc (more_blocks left n, length-blocks (behind_block left) n)
 
 -- A library whose directory can have the entries.
 module _ (model : DriveModel) (l : NewLibrary) (goes : All (MemberGoesOn model) l.members.now)
@@ -90,8 +84,7 @@ module _ (model : DriveModel) (l : NewLibrary) (goes : All (MemberGoesOn model) 
   whole = all_whole (all_entries (directory_entries model l)) l.directory_blocks (entries_short (directory_entries model l) are.each)
 
   length-bytes : length (directory_bytes model l) ≡ l.directory_blocks * 264
-  length-bytes = length-whole bs whole
-      ∙ ap (λ (n : ℕ). n * 264) (length-blocks (all_entries (directory_entries model l)) l.directory_blocks)
+  length-bytes = cc (length-whole bs whole, length-blocks (all_entries (directory_entries model l)) l.directory_blocks)
 
   block_count : length (directory_bytes model l) / 264 ≡ l.directory_blocks
   block_count = omega (arith, length-bytes)
@@ -100,10 +93,10 @@ module _ (model : DriveModel) (l : NewLibrary) (goes : All (MemberGoesOn model) 
   cut =
       let n : length (directory_bytes model l) / 264 ≡ length bs =
       block_count ∙ sym (length-blocks (all_entries (directory_entries model l)) l.directory_blocks) in
-      ap (λ (k : ℕ). map (directory_area (concat bs)) (range_with_len 0 k)) n ∙ cut_again bs [] 0 whole refl
+      cc (cut_again bs [] 0 whole refl)
 
   data_is : tracks.data_of (directory_areas (directory_bytes model l)) ≡ blocks.data_of bs
-  data_is = ap tracks.data_of cut ∙ flat_map-map (λ (a : Areas). a.data_area) area_in bs
+  data_is = cc (cut, flat_map-map (λ (a : Areas). a.data_area) area_in bs)
 
   -- records stand where they would with a directory of zeros
   same : (k : ℕ) → address_of model (own_areas model l) k ≡ address_of model (blank_areas l) k
@@ -116,23 +109,17 @@ module _ (model : DriveModel) (l : NewLibrary) (goes : All (MemberGoesOn model) 
       → own_directory_end model l < 512 → HasEntries model l (source_written (members.directory extents) g slots)
   own_entries room g extents slots has within =
       let end : directory_end model (directory_bytes model l) l.members.now ≡ own_directory_end model l =
-      ap (λ (k : ℕ). (address_of model (own_areas model l) k).track) block_count
-      ∙ ap (λ (a : RelativeAddress). a.track) (same l.directory_blocks) in
-      let read = directory_read model (directory_bytes model l) l.members.now goes g extents slots has (omega (arith, end, within)) in
-      record {
-        entries = ap (λ (w : Written). entries_of w.bytes) read ∙ ap entries_of data_is
-            ∙ ap entries_of (sym (append-nil (blocks.data_of bs)))
-            ∙ read_back (directory_entries model l) l.directory_blocks are.each room [];
-        stop = ap (λ (w : Written). w.stop) read ∙ ap (λ (n : ℕ). Some (stop_at n EndOfFile)) end;
+      cc (block_count, same l.directory_blocks) in
+      let read = directory_read model (directory_bytes model l) l.members.now goes g extents slots has (omega arith) in record {
+        entries = cc (data_is, append-nil (blocks.data_of bs), read_back (directory_entries model l) l.directory_blocks are.each room []);
+        stop = cc;
       }
 
   -- a block of a member stands there
   own_address : (member k : ℕ)
       → address_of model (own_areas model l) (first_record (length (directory_bytes model l) / 264) l.members.now member + k)
       ≡ block_address model l member k
-  own_address member k =
-      ap (λ (n : ℕ). address_of model (own_areas model l) (first_record n l.members.now member + k)) block_count
-      ∙ same (first_record l.directory_blocks l.members.now member + k)
+  own_address member k = cc (block_count, same (first_record l.directory_blocks l.members.now member + k))
 
   pub own_member : (member k : ℕ) → member < length l.members.now → k ≤ length (blocks_of_member l.members.now member)
       → IsReadFrom model l (block_address model l member k) member k
@@ -141,10 +128,8 @@ module _ (model : DriveModel) (l : NewLibrary) (goes : All (MemberGoesOn model) 
       let track : RelativeAddress → ℕ = λ a. a.track in
       let start = own_address member k in
       let end = own_address member (length blocks) in
-      ap (λ (a : RelativeAddress). source_written (wanted form extents a most) g slots) (sym start)
-      ∙ members_read model (directory_bytes model l) l.members.now goes form text member k there few g extents slots has most
-      (omega (arith, ap track start, ap track end, within)) written
-      ∙ ap (λ (a : RelativeAddress). ended_by_file (flat_map text (drop k blocks)) a.track) end
+      cc (members_read model (directory_bytes model l) l.members.now goes form text member k there few g extents slots has most
+      (omega (arith, ap track start, ap track end)) written)
 
 -- An address in the user data of an entry is that of its block.
 module _ (model : DriveModel) (l : NewLibrary) (e : MemberEntry) (j : ℕ) (d : MemberNote) (there : j < length e.notes.now) where
@@ -155,23 +140,22 @@ module _ (model : DriveModel) (l : NewLibrary) (e : MemberEntry) (j : ℕ) (d : 
   byte_at i within =
       let notes = e.notes.now in
       let before : length (flat_map bytes_of_note (take j notes)) ≡ 4 * j =
-      length-notes model l e.member (take j notes) ∙ ap (λ (n : ℕ). 4 * n) (length-take-le j notes (omega (arith, there))) in
+      cc (length-notes model l e.member (take j notes), length-take-le j notes (omega arith)) in
       let all = length-notes model l e.member notes in
-      get_or_append_left (entry_notes model l e) e.user_data.now 0 (4 * j + i) (omega (arith, there, within, all))
+      get_or_append_left (entry_notes model l e) e.user_data.now 0 (4 * j + i) (omega arith)
       ∙ ap (λ (n : ℕ). get_or (flat_map bytes_of_note notes) (n + i) 0) (sym before)
-      ∙ get_or-flat_map bytes_of_note notes j i d 0 there (omega (arith, within))
+      ∙ get_or-flat_map bytes_of_note notes j i d 0 there (omega arith)
 
   pub note_address : relative_address_at (entry_user_data model l e) (4 * j) ≡ block_address model l e.member (get_or e.notes.now j d).block
   note_address =
       let a = block_address model l e.member (get_or e.notes.now j d).block in
       let bytes = entry_user_data model l e in
       let none : 4 * j ≡ 4 * j + 0 = omega arith in
-      let high : slice_index bytes (4 * j) ≡ a.track / 256 = ap (slice_index bytes) none ∙ byte_at 0 (omega arith) in
+      let high : slice_index bytes (4 * j) ≡ a.track / 256 = cc (byte_at 0 (omega arith)) in
       let low : slice_index bytes (4 * j + 1) ≡ a.track % 256 = byte_at 1 (omega arith) in
       let number : slice_index bytes (4 * j + 2) ≡ a.number = byte_at 2 (omega arith) in
-      let track : number_at bytes (4 * j) ≡ a.track = omega (arith, high, low) in
-      ap (λ (t : ℕ). record a { track = t; number = slice_index bytes (4 * j + 2) }) track
-      ∙ ap (λ (n : ℕ). record a { number = n }) number
+      let track : number_at bytes (4 * j) ≡ a.track = omega arith in
+      ap (λ (t : ℕ). record a { track = t; number = slice_index bytes (4 * j + 2) }) track ∙ ap (λ (n : ℕ). record a { number = n }) number
 
 pub own_read : (model : DriveModel) (l : NewLibrary) → All (MemberGoesOn model) l.members.now → All (Leads l) l.entries.now
     → AreEntries (directory_entries model l) → left_behind (all_entries (directory_entries model l)) l.directory_blocks ≡ []

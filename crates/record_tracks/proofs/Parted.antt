@@ -1,7 +1,6 @@
 -- The user data of entries one behind another: that of the next one, and what stands behind it.
-use Rattle.std.proofs.Common.{◌≡◌, ◌∙◌, ap, sym, refl, ℕ, ◌+◌, ◌*◌, ◌≤◌, ◌<◌, List}
-use Rattle.std.proofs.Common.{[], ◌∷◌, ◌++◌, length, map, flat_map, take, drop, get_or, false, arith}
-use Rattle.std.proofs.Common.{length-append}
+use Rattle.std.proofs.Common.{◌≡◌, ◌∙◌, ap, sym, refl, ℕ, ◌+◌, ◌*◌, ◌≤◌, ◌<◌, List, [], ◌∷◌, ◌++◌, length, map, flat_map, take, drop}
+use Rattle.std.proofs.Common.{get_or, false, arith, length-append}
 use Rattle.std.proofs.lemmas.List.{drop_more, take_more, take_at, drop_at, map-append}
 use Rattle.ckd_track.specs.declared.model.DriveModel.{DriveModel}
 use Rattle.record_tracks.specs.declared.libraries.MemberEntry.{MemberEntry}
@@ -31,8 +30,7 @@ module _ (model : DriveModel) (l : NewLibrary) where
       omega (arith, length-append first rest, length-notes member others)
 
   pub length-user_data : (e : MemberEntry) → length (entry_user_data model l e) ≡ 4 * length e.notes.now + length e.user_data.now
-  length-user_data e =
-      omega (arith, length-append (entry_notes model l e) e.user_data.now, length-notes e.member e.notes.now)
+  length-user_data e = omega (arith, length-append (entry_notes model l e) e.user_data.now, length-notes e.member e.notes.now)
 
   module _ (entries : List MemberEntry) (k : ℕ) (there : k < length entries) where
     abbrev e : MemberEntry
@@ -46,24 +44,17 @@ module _ (model : DriveModel) (l : NewLibrary) where
 
     pub next_size : 4 * length e.notes.now + length e.user_data.now
         ≤ length (flat_map (entry_user_data model l) (drop k entries))
-    next_size =
-        let own = entry_user_data model l e in
-        omega (arith, ap length next_first, length-append own others, length-user_data e)
+    next_size = let own = entry_user_data model l e in omega (arith, ap length next_first, length-append own others, length-user_data e)
 
     pub next_own : (rest : List ℕ) (n : ℕ) → rest ≡ flat_map (entry_user_data model l) (drop k entries)
         → n ≡ 4 * length e.notes.now + length e.user_data.now → take n rest ≡ entry_user_data model l e
-    next_own rest n is size =
-        ap (take n) (is ∙ next_first) ∙ take_at (entry_user_data model l e) others n (length-user_data e ∙ sym size)
+    next_own rest n is size = cc (next_first, take_at (entry_user_data model l e) others n (length-user_data e ∙ sym size))
 
     pub next_others : (rest : List ℕ) (n : ℕ) → rest ≡ flat_map (entry_user_data model l) (drop k entries)
         → n ≡ 4 * length e.notes.now + length e.user_data.now → drop n rest ≡ others
-    next_others rest n is size =
-        ap (drop n) (is ∙ next_first) ∙ drop_at (entry_user_data model l e) others n (length-user_data e ∙ sym size)
+    next_others rest n is size = cc (next_first, drop_at (entry_user_data model l e) others n (length-user_data e ∙ sym size))
 
     pub one_more : (done : List EntryContents) (x : EntryContents) → done ≡ map (entry_contents model l) (take k entries)
         → x ≡ entry_contents model l e → done ++ x ∷ [] ≡ map (entry_contents model l) (take (k + 1) entries)
     one_more done x so_far is =
-        let one = entry_contents model l in
-        ap (λ (es : List EntryContents). es ++ x ∷ []) so_far
-        ∙ ap (λ (y : EntryContents). map one (take k entries) ++ y ∷ []) is
-        ∙ sym (ap (map one) (take_more entries k no_entry there) ∙ map-append one (take k entries) (e ∷ []))
+        let one = entry_contents model l in cc (take_more entries k no_entry there, map-append one (take k entries) (e ∷ []))

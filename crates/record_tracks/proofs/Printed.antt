@@ -1,28 +1,25 @@
 -- The records of a text on tracks are read as its lines.
-use Rattle.std.proofs.Common.{◌≡◌, ◌∙◌, ◌≤◌, ◌<◌, ◌+◌, ◌-◌, ◌*◌, ◌==◌, ⊎_elim, ℕ, zero, suc, Bool, true, false, cond, not, ◌&&◌}
-use Rattle.std.proofs.Common.{List, [], ◌∷◌, ◌++◌, length, map, take, drop, flat_map, ap, refl, sym, subst, arith, All, drop-drop}
-use Rattle.std.proofs.Common.{length-append, length-take, length-drop}
+use Rattle.std.proofs.Common.{◌≡◌, ◌∙◌, ◌≤◌, ◌<◌, ◌+◌, ◌*◌, ◌==◌, ⊎_elim, ℕ, zero, suc, Bool, true, false, not, ◌&&◌, List, [], ◌∷◌, ◌++◌}
+use Rattle.std.proofs.Common.{length, map, take, drop, flat_map, ap, refl, sym, subst, arith, All, drop-drop, length-append, length-take}
+use Rattle.std.proofs.Common.{length-drop}
 use Rattle.std.proofs.lemmas.Bool.{le-ltb, cases_lt}
 use Rattle.std.proofs.lemmas.Nat.{mul-le}
 use Rattle.std.proofs.lemmas.List.{take-append-drop, drop_all}
 use Rattle.std.proofs.lemmas.List.Concat.{flat_map-append}
 use Rattle.std.proofs.lemmas.List.Elements.{All-map}
 use Rattle.ckd_track.specs.declared.model.DriveModel.{DriveModel}
-use Rattle.volume_labels.specs.declared.records.RecordForm.TheVariants.{Fixed}
 use Rattle.volume_labels.specs.Layouts.{is_longer}
 use Rattle.dasd_extract.specs.declared.blocks.ExtractedForm.TheVariants.{Text}
-use Rattle.dasd_extract.specs.declared.stops.Cause.TheVariants.{LongBlock}
-use Rattle.dasd_extract.specs.Written.{Written, these_bytes, stopped}
-use Rattle.dasd_extract.specs.Blocks.{number_of, lines_written, records_written, form_written}
+use Rattle.dasd_extract.specs.Written.{Written, these_bytes}
+use Rattle.dasd_extract.specs.Blocks.{number_of, records_written, form_written}
 use Rattle.record_tracks.specs.Records.{Areas}
 use Rattle.record_tracks.specs.Tracks.{record_with}
-use Rattle.record_tracks.specs.ReadBack.{IsWrittenAs, ended_by_file}
+use Rattle.record_tracks.specs.ReadBack.{IsWrittenAs}
 use Rattle.record_tracks.specs.declared.blocks.Cut.{Cut}
 use Rattle.record_tracks.specs.declared.blocks.Cut.TheVariants.{Length}
 use Rattle.record_tracks.specs.Blocks.{first_areas, rests_to, rests_of, block_areas, AreBlocks}
-use Rattle.record_tracks.proofs.Rests.{each_rest, none_left, one_more}
-use Rattle.record_tracks.proofs.Fits.{length_fits}
-use Rattle.record_tracks.proofs.Read.{read_as}
+use Rattle.record_tracks.proofs.Rests.{each_rest, none_left, one_more, length_fits}
+use Rattle.record_tracks.proofs.Texts.{read_as}
 use Rattle.record_tracks.specs.Lines.{lines_of}
 use Rattle.record_tracks.specs.Read.{ended, without_blanks}
 use Rattle.record_tracks.specs.Printed.{layout_of, IsPrinted}
@@ -34,17 +31,15 @@ and_false false = refl
 
 -- a block that is not longer than the longest
 no_longer : (longest n : ℕ) → n ≤ longest → is_longer longest n ≡ false
-no_longer longest n within = ap (λ t. not (longest == 0) && t) (le-ltb longest n within) ∙ and_false (not (longest == 0))
+no_longer longest n within = cc (le-ltb longest n within, and_false (not (longest == 0)))
 
 at_most : (a b size : ℕ) → 1 ≤ size → a * size ≤ b * size → a ≤ b
-at_most a b size some within = ⊎_elim (λ (over : b < a).
-    absurd (omega (arith, some, within, mul-le (b + 1) size a size (omega (arith, over)) (omega arith))))
+at_most a b size some within = ⊎_elim (λ (over : b < a). absurd (omega (arith, mul-le (b + 1) size a size (omega arith) (omega arith))))
     (λ (few : a ≤ b). few) (cases_lt b a)
 
 long : (size : ℕ) (lines : List (List ℕ)) (bytes : List ℕ) → AreRecords size lines bytes → length bytes ≡ length lines * size
 long size [] bytes h = ap length h ∙ omega arith
-long size (l ∷ ls) bytes h =
-    omega (arith, ap length h.1.joined, length-append h.1.first h.0, h.1.is_record.long, long size ls h.0 h.2)
+long size (l ∷ ls) bytes h = omega (arith, ap length h.1.joined, length-append h.1.first h.0, long size ls h.0 h.2)
 
 module _ (size count : ℕ) (lines : List (List ℕ)) (bytes : List ℕ) (some : 1 ≤ size) (h : AreRecords size lines bytes) where
   abbrev cut : Cut
@@ -64,9 +59,8 @@ module _ (size count : ℕ) (lines : List (List ℕ)) (bytes : List ℕ) (some :
   as_lines : (from track number : ℕ) → records_written (layout_of size count) track number (take (count * size) (left from))
       ≡ these_bytes (flat_map line_text (take count (drop from lines)))
   as_lines from track number =
-      ap (λ t. cond t (stopped track (LongBlock number)) (lines_written (Fixed size) track number (take (count * size) (left from))))
-      (no_longer (count * size) (length (take (count * size) (left from))) (omega (arith, length-take (count * size) (left from))))
-      ∙ read_as_lines size lines bytes some h from count track number
+      let one = read_as_lines size lines bytes some h from count track number in
+      cc (no_longer (count * size) (length (take (count * size) (left from))) (omega (arith, length-take (count * size) (left from))))
 
   text_is : (from : ℕ) → text (first_areas cut (left from)) ≡ flat_map line_text (take count (drop from lines))
   text_is from = ap (λ (w : Written). w.bytes) (as_lines from 0 0)
@@ -76,12 +70,11 @@ module _ (size count : ℕ) (lines : List (List ℕ)) (bytes : List ℕ) (some :
   Begins rest = (from : ℕ) × (rest ≡ left from)
 
   behind_block : (from : ℕ) → drop (count * size) (left from) ≡ left (from + count)
-  behind_block from =
-      drop-drop (count * size) (from * size) bytes ∙ ap (λ (n : ℕ). drop n bytes) {y = (from + count) * size} (grind arith)
+  behind_block from = drop-drop (count * size) (from * size) bytes ∙ ap (λ (n : ℕ). drop n bytes) {y = (from + count) * size} (grind arith)
 
   all_begin : All Begins (rests_of cut bytes)
   all_begin = each_rest Begins cut (length bytes) bytes (0, ap (λ (n : ℕ). drop n bytes) {x = 0} {y = 0 * size} (omega arith))
-      (λ (rest : List ℕ) (at : Begins rest). (at.0 + count, ap (drop (count * size)) at.1 ∙ behind_block at.0))
+      (λ (rest : List ℕ) (at : Begins rest). (at.0 + count, cc (behind_block at.0)))
 
   one_written : (rest : List ℕ) → Begins rest → 1 ≤ length (first_areas cut rest).data_area
       → IsWrittenAs (Text (layout_of size count)) text (first_areas cut rest)
@@ -90,7 +83,7 @@ module _ (size count : ℕ) (lines : List (List ℕ)) (bytes : List ℕ) (some :
     written = λ track number id.
         subst (λ (r : List ℕ). form_written (Text (layout_of size count)) track (record_with id number (first_areas cut r))
         ≡ these_bytes (text (first_areas cut r))) (sym at.1)
-        (as_lines at.0 track (number_of (record_with id number (first_areas cut (left at.0)))) ∙ ap these_bytes (sym (text_is at.0)));
+        (cc (as_lines at.0 track (number_of (record_with id number (first_areas cut (left at.0)))), text_is at.0));
   }
 
   pub all_written : (model : DriveModel) → AreBlocks model cut bytes
@@ -106,8 +99,8 @@ module _ (size count : ℕ) (lines : List (List ℕ)) (bytes : List ℕ) (some :
       → said (rests_to cut most rest) ≡ flat_map line_text (drop from lines)
   no_lines from most rest is none =
       let few : length lines ≤ from = at_most (length lines) from size some
-      (omega (arith, ap length is, none, length-drop (from * size) bytes, long size lines bytes h)) in
-      ap said (none_left cut most rest none) ∙ ap (flat_map line_text) (sym (drop_all from lines few))
+      (omega (arith, ap length is, length-drop (from * size) bytes, long size lines bytes h)) in
+      cc (none_left cut most rest none, drop_all from lines few)
 
   lines_left : (many : 1 ≤ count) (most from : ℕ) (rest : List ℕ) → rest ≡ left from → length rest ≤ most
       → said (rests_to cut most rest) ≡ flat_map line_text (drop from lines)
@@ -118,11 +111,10 @@ module _ (size count : ℕ) (lines : List (List ℕ)) (bytes : List ℕ) (some :
       let n = count * size in
       let behind = drop n rest in
       let on = ap (drop n) is ∙ behind_block from in
-      let taken : 1 ≤ n = mul-le 1 1 count size many some in
-      ap said (one_more cut most rest (omega arith))
+      let taken : 1 ≤ n = mul-le 1 1 count size many some in ap said (one_more cut most rest (omega arith))
       ∙ ap (λ (xs : List ℕ). xs ++ said (rests_to cut most behind)) (ap (λ (r : List ℕ). text (first_areas cut r)) is ∙ text_is from)
       ∙ ap (λ (xs : List ℕ). flat_map line_text (take count (drop from lines)) ++ xs)
-      (lines_left many most (from + count) behind on (omega (arith, few, taken, length-drop n rest)))
+      (lines_left many most (from + count) behind on (omega (arith, length-drop n rest)))
       ∙ sym (flat_map-append line_text (take count (drop from lines)) (drop (from + count) lines))
       ∙ ap (λ (xs : List (List ℕ)). flat_map line_text (take count (drop from lines) ++ xs))
       (ap (λ (m : ℕ). drop m lines) {y = from + count} (omega arith) ∙ sym (drop-drop count from lines))
@@ -136,7 +128,9 @@ is_printed g extents slots size count text tracks most has within =
     let lines = lines_of text in
     let are = are_records size 1 lines has.records has.are in
     let each = length_fits g.model (count * size) has.records (mul-le 1 1 count size has.many has.some) has.most in
-    read_as g.model (Length (count * size)) has.records each (Text (layout_of size count))
-    (λ (a : Areas). (records_written (layout_of size count) 0 0 a.data_area).bytes) tracks g extents slots most
-    (all_written size count lines has.records has.some are g.model each) has.takes refl within has.loaded
-    ∙ ap (λ (xs : List ℕ). ended_by_file xs (tracks - 1)) (all_text size count lines has.records has.some are has.many)
+    cc (
+      read_as g.model (Length (count * size)) has.records each (Text (layout_of size count))
+          (λ (a : Areas). (records_written (layout_of size count) 0 0 a.data_area).bytes) tracks g extents slots most
+          (all_written size count lines has.records has.some are g.model each) has.takes refl within has.loaded,
+      all_text size count lines has.records has.some are has.many,
+    )

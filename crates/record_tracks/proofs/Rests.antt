@@ -1,13 +1,23 @@
 -- The bytes from each block on, one block after another.
 use Rattle.std.proofs.Common.{◌≡◌, ◌∙◌, ap, sym, refl, ℕ, zero, suc, ◌+◌, ◌-◌, ◌≤◌, ◌<◌, List, [], ◌∷◌, ◌++◌, length, map, drop, arith, All}
-use Rattle.std.proofs.Common.{Bool, true, false, ◌==◌, Option, Some, None, append_assoc, append-nil}
+use Rattle.std.proofs.Common.{Bool, true, false, ◌==◌, Option, Some, None, append_assoc, append-nil, take, length-take}
 use Rattle.std.proofs.lemmas.Bool.Decides.{nat_tests}
 use Rattle.std.proofs.lemmas.List.Elements.{All-nil, All-cons}
 use Rattle.record_tracks.specs.Records.{Areas}
 use Rattle.record_tracks.specs.declared.blocks.Cut.{Cut}
 use Rattle.record_tracks.specs.declared.block_faults.DescribedFault.{DescribedFault}
-use Rattle.record_tracks.specs.Blocks.{size_of, first_areas, rests_to, rests_of}
-use Rattle.record_tracks.specs.BlockFaults.{or_next, first_fault}
+use Rattle.record_tracks.specs.Blocks.{size_of, first_areas, rests_to, rests_of, cut_by, IsBlock, AreBlocks}
+use Rattle.record_tracks.specs.BlockFaults.{or_next, first_fault, described_fault, lengths_fault, fault_of_first, cut_fault, IsCutFor}
+use Rattle.std.specs.Prelude.{IfNone}
+use Rattle.ckd_track.specs.declared.model.DriveModel.{DriveModel}
+use Rattle.ckd_track.specs.Model.{capacity_of}
+use Rattle.volume_labels.specs.declared.records.RecordForm.{RecordForm}
+use Rattle.volume_labels.specs.declared.records.RecordForm.TheVariants as form
+use Rattle.volume_labels.specs.Records.{number_at}
+use Rattle.volume_labels.specs.declared.layouts.Layout.{Layout}
+use Rattle.record_tracks.proofs.Listed.{keyless_goes, goes_by_test}
+use Rattle.record_tracks.specs.declared.blocks.Cut.TheVariants.{Length, Described, WithLengths}
+use Rattle.record_tracks.specs.declared.block_faults.BlockFault.{BlockFault}
 
 -- bytes of which it was asked whether there are some
 pub is_empty : (n : ℕ) (b : Bool) → b ≡ (n == 0) → b ≡ true → n ≤ 0
@@ -24,12 +34,12 @@ pub none_left : (cut : Cut) (most : ℕ) (bytes : List ℕ) → length bytes ≤
 unfolding rests_to
 none_left cut zero bytes none = refl
 none_left cut (suc most) [] none = refl
-none_left cut (suc most) (b ∷ others) none = absurd (omega (arith, none))
+none_left cut (suc most) (b ∷ others) none = absurd (omega arith)
 
 pub one_more : (cut : Cut) (most : ℕ) (bytes : List ℕ) → 1 ≤ length bytes
     → rests_to cut (suc most) bytes ≡ bytes ∷ rests_to cut most (drop (size_of cut bytes) bytes)
 unfolding rests_to
-one_more cut most [] some = absurd (omega (arith, some))
+one_more cut most [] some = absurd (omega arith)
 one_more cut most (b ∷ others) some = refl
 
 -- what is so of all bytes, and behind the first block of any of which it is so, is so from each block on
@@ -54,30 +64,26 @@ some_left cut (suc most) (b ∷ others) =
 -- A loop over blocks that has passed k of them: which are left, of all bytes and of the rest.
 module _ (cut : Cut) (size k : ℕ) (rest : List ℕ) (there : k < size) (some : 1 ≤ length rest) where
   pub next_rest : rests_to cut (size - k) rest ≡ rest ∷ rests_to cut (size - (k + 1)) (drop (size_of cut rest) rest)
-  next_rest =
-      let more : size - k ≡ suc (size - (k + 1)) = omega (arith, there) in
-      ap (λ (n : ℕ). rests_to cut n rest) more ∙ one_more cut (size - (k + 1)) rest some
+  next_rest = let more : size - k ≡ suc (size - (k + 1)) = omega arith in cc (one_more cut (size - (k + 1)) rest some)
 
   -- the records of these and those before them
   pub next_areas : (before : List Areas) → before ++ map (first_areas cut) (rests_to cut (size - k) rest)
       ≡ (before ++ first_areas cut rest ∷ []) ++ map (first_areas cut) (rests_to cut (size - (k + 1)) (drop (size_of cut rest) rest))
-  next_areas before =
-      ap (λ (rests : List (List ℕ)). before ++ map (first_areas cut) rests) next_rest
-      ∙ sym (append_assoc before (first_areas cut rest ∷ [])
-      (map (first_areas cut) (rests_to cut (size - (k + 1)) (drop (size_of cut rest) rest))))
+  next_areas before = cc (
+    next_rest,
+    append_assoc before (first_areas cut rest ∷ []) (map (first_areas cut) (rests_to cut (size - (k + 1)) (drop (size_of cut rest) rest))),
+  )
 
 -- no block is left
 pub areas_end : (cut : Cut) (most : ℕ) (rest : List ℕ) (before : List Areas) → rests_to cut most rest ≡ []
     → before ++ map (first_areas cut) (rests_to cut most rest) ≡ before
-areas_end cut most rest before none =
-    ap (λ (rests : List (List ℕ)). before ++ map (first_areas cut) rests) none ∙ append-nil before
+areas_end cut most rest before none = cc (append-nil before)
 
 pub at_first : (cut : Cut) (bytes : List ℕ) → rests_of cut bytes ≡ rests_to cut (length bytes - 0) bytes
 at_first cut bytes = ap (λ (n : ℕ). rests_to cut n bytes) (omega arith)
 
 pub at_last : (cut : Cut) (size k : ℕ) (rest : List ℕ) → size ≤ k → rests_to cut (size - k) rest ≡ []
-at_last cut size k rest all =
-    let none : size - k ≡ 0 = omega (arith, all) in ap (λ (n : ℕ). rests_to cut n rest) none ∙ none_most cut rest
+at_last cut size k rest all = let none : size - k ≡ 0 = omega arith in cc (none_most cut rest)
 
 -- The first of blocks that is none.
 module _ (why : List ℕ → Option DescribedFault) where
@@ -90,20 +96,77 @@ module _ (why : List ℕ → Option DescribedFault) where
   unfolding first_fault
   next_fault rest others k = refl
 
-  passed : (rest : List ℕ) (others : List (List ℕ)) (k : ℕ) (o : Option DescribedFault) → o ≡ why rest
+  passes : (rest : List ℕ) (others : List (List ℕ)) (k : ℕ) (o : Option DescribedFault) → o ≡ why rest
       → first_fault why (rest ∷ others) k ≡ None → (why rest ≡ None) × (first_fault why others (k + 1) ≡ None)
-  passed rest others k (Some fault) here is =
-      let next = ap (λ (o : Option DescribedFault). or_next k o (first_fault why others)) here
-      ∙ sym (next_fault rest others k) ∙ is in
+  passes rest others k (Some fault) here is =
+      let next = ap (λ (o : Option DescribedFault). or_next k o (first_fault why others)) here ∙ sym (next_fault rest others k) ∙ is in
       absurd (cc)
-  passed rest others k None here is = (
-    sym here,
-    ap (λ (o : Option DescribedFault). or_next k o (first_fault why others)) here ∙ sym (next_fault rest others k) ∙ is,
-  )
+  passes rest others k None here is = (sym here, cc (next_fault rest others k))
 
   -- where there is none, each is one
   pub none_wrong : (rests : List (List ℕ)) (k : ℕ) → first_fault why rests k ≡ None → All (λ (rest : List ℕ). why rest ≡ None) rests
   none_wrong [] k is = All-nil (λ (rest : List ℕ). why rest ≡ None)
   none_wrong (rest ∷ others) k is =
-      let both = passed rest others k (why rest) refl is in
+      let both = passes rest others k (why rest) refl is in
       All-cons (λ (rest : List ℕ). why rest ≡ None) rest others both.0 (none_wrong others (k + 1) both.1)
+
+-- blocks of one length
+one_length : (model : DriveModel) (size : ℕ) → 1 ≤ size → size ≤ capacity_of model → (rest : List ℕ) → 1 ≤ length rest
+    → IsBlock model (Length size) rest
+one_length model size some most rest there = record {
+  some = omega (arith, length-take size rest);
+  whole = tt;
+  goes = keyless_goes model (take size rest) (omega (arith, length-take size rest));
+}
+
+pub length_fits : (model : DriveModel) (size : ℕ) (bytes : List ℕ) → 1 ≤ size → size ≤ capacity_of model
+    → AreBlocks model (Length size) bytes
+length_fits model size bytes some most k d there =
+    one_length model size some most _ (some_left (Length size) (length bytes) bytes k d there)
+
+-- a block by its descriptor word
+described_fits : (model : DriveModel) (l : Layout) (rest : List ℕ) → l.longest ≤ capacity_of model → described_fault l rest ≡ None
+    → IsBlock model Described rest
+described_fits model l rest most none = let n = number_at rest 0 in record {
+  some = grind (arith, nat_tests, length-take n rest);
+  whole = grind (arith, nat_tests);
+  goes = keyless_goes model (take n rest) (grind (arith, nat_tests, length-take n rest));
+}
+
+-- a block by the lengths before it
+lengths_fits : (model : DriveModel) (l : Layout) (key_length : ℕ) (rest : List ℕ) → lengths_fault model l key_length rest ≡ None
+    → IsBlock model WithLengths rest
+lengths_fits model l key_length rest none = record {
+  some = grind (arith, nat_tests);
+  whole = (grind (arith, nat_tests), grind (arith, nat_tests));
+  goes = goes_by_test model (first_areas WithLengths rest) (grind (arith, nat_tests));
+}
+
+-- blocks that say their own lengths
+first_fits : (model : DriveModel) (l : Layout) (key_length : ℕ) (cut : Cut) (bytes : List ℕ)
+    → ((rest : List ℕ) → fault_of_first model l key_length cut rest ≡ None → IsBlock model cut rest)
+    → first_fault (fault_of_first model l key_length cut) (rests_of cut bytes) 0 ≡ None → AreBlocks model cut bytes
+first_fits model l key_length cut bytes each none k d there =
+    each _ (none_wrong (fault_of_first model l key_length cut) (rests_of cut bytes) 0 none k d there)
+
+-- a layout that cuts by one length has this as its longest
+longest_is : (f : RecordForm) (longest size : ℕ) → Length size ≡ cut_by f longest → size ≡ longest
+longest_is (form.Fixed n) longest size is = cc
+longest_is form.Undefined longest size is = cc
+longest_is form.Variable longest size is = absurd (cc)
+longest_is form.Spanned longest size is = absurd (cc)
+
+pub cut_fits : (model : DriveModel) (l : Layout) (key_length : ℕ) (cut : Cut) (bytes : List ℕ) → IsCutFor l cut → 1 ≤ l.longest
+    → l.longest ≤ capacity_of model → cut_fault model l key_length cut bytes ≡ None → AreBlocks model cut bytes
+cut_fits model l key_length (Length size) bytes is some most none =
+    let e = longest_is l.form l.longest size is in length_fits model size bytes (omega arith) (omega arith)
+cut_fits model l key_length Described bytes is some most none =
+    first_fits model l key_length Described bytes (λ rest. described_fits model l rest most) none
+cut_fits model l key_length WithLengths bytes is some most none =
+    first_fits model l key_length WithLengths bytes (lengths_fits model l key_length) none
+
+pub fits_or_fault : (model : DriveModel) (l : Layout) (key_length : ℕ) (cut : Cut) (bytes : List ℕ) (o : Option BlockFault)
+    → IsCutFor l cut → 1 ≤ l.longest → l.longest ≤ capacity_of model → o ≡ cut_fault model l key_length cut bytes
+    → IfNone o (AreBlocks model cut bytes)
+fits_or_fault model l key_length cut bytes None is_cut some most is = cut_fits model l key_length cut bytes is_cut some most (sym is)
+fits_or_fault model l key_length cut bytes (Some fault) is_cut some most is = tt

@@ -1,19 +1,14 @@
 -- The address of a record is where it stands.
-use Rattle.std.proofs.Common.{◌≡◌, ◌∙◌, ap, sym, refl, subst, ℕ, zero, suc, ◌+◌}
-use Rattle.std.proofs.Common.{◌-◌, ◌≤◌, ◌<◌, List, [], ◌∷◌, length, map, drop, arith, All}
-use Rattle.std.proofs.Common.{true, false, nat_lt, nat_le, if◌then◌else◌, ◌⊎◌, inl, inr, length-drop, drop-drop}
+use Rattle.std.proofs.Common.{◌≡◌, ◌∙◌, ap, sym, refl, subst, ℕ, zero, suc, ◌+◌, ◌-◌, ◌≤◌, ◌<◌, List, [], ◌∷◌, length, map, drop, arith}
+use Rattle.std.proofs.Common.{All, true, false, nat_lt, ◌⊎◌, inl, inr, length-drop, drop-drop}
 use Rattle.std.proofs.lemmas.Bool.{cases_lt}
 use Rattle.std.proofs.lemmas.Bool.Decides.{nat_tests}
 use Rattle.std.proofs.lemmas.List.{drop-map}
 use Rattle.ckd_track.specs.declared.model.DriveModel.{DriveModel}
-use Rattle.ckd_track.specs.Model.{capacity_of}
-use Rattle.ckd_track.specs.Charges.{charge_of, last_charge_of}
 use Rattle.volume_labels.specs.declared.fields.RelativeAddress.{RelativeAddress}
 use Rattle.record_tracks.specs.Records.{Areas, GoesOn, charge_for, last_charge_for}
 use Rattle.record_tracks.specs.Tracks.{fitting, fitting_on, behind_track, left_behind, StandsAt, Takes}
-use Rattle.record_tracks.proofs.Fitting.{fits_on}
-use Rattle.record_tracks.proofs.Behind.{none_behind, one_behind, some_fit, one_more}
-use Rattle.record_tracks.proofs.Reading.{left_shrinks}
+use Rattle.record_tracks.proofs.Fitting.{fits_on, none_behind, one_behind, some_fit, one_more, left_shrinks}
 use Rattle.record_tracks.specs.Addresses.{address_from, address_of}
 
 module _ (most : ℕ) (model : DriveModel) (left : List Areas) (track k : ℕ) where
@@ -32,9 +27,8 @@ module _ (model : DriveModel) (areas : List Areas) where
 
   -- from a record on with which a track begins
   stands_from : All (GoesOn model) areas → (most before track k : ℕ) → k < most → before + k < length areas
-      → left_behind model areas track ≡ drop before areas
-      → Stands (before + k) (address_from most model (drop before areas) track k)
-  stands_from each zero before track k enough there left = absurd (omega (arith, enough))
+      → left_behind model areas track ≡ drop before areas → Stands (before + k) (address_from most model (drop before areas) track k)
+  stands_from each zero before track k enough there left = absurd (omega arith)
   stands_from each (suc most) before track k enough there left =
       by (cases_lt k (fitting_on model (drop before areas))) (stands_from each most)
     where
@@ -47,26 +41,23 @@ module _ (model : DriveModel) (areas : List Areas) where
         left = left;
         place = omega arith;
         first = omega arith;
-        there = omega (arith, fits, ap (fitting_on model) left);
+        there = omega (arith, ap (fitting_on model) left);
       })
       by (inr over) others =
           let fit = fitting_on model (drop before areas) in
-          let some = some_fit model areas before each (omega (arith, there)) in
-          let far : before + fit + (k - fit) ≡ before + k = omega (arith, over) in
-          let next = others (before + fit) (track + 1) (k - fit) (omega (arith, enough, some, over))
-          (omega (arith, there, far)) (sym (one_more model areas before track (sym left))) in
+          let some = some_fit model areas before each (omega arith) in
+          let far : before + fit + (k - fit) ≡ before + k = omega arith in
+          let next = others (before + fit) (track + 1) (k - fit) (omega arith)
+          (omega arith) (sym (one_more model areas before track (sym left))) in
           let here = subst (λ (j : ℕ). Stands j (address_from most model (drop (before + fit) areas) (track + 1) (k - fit))) far next in
           let same : address_from most model (drop (before + fit) areas) (track + 1) (k - fit)
           ≡ address_from (suc most) model (drop before areas) track k =
-          ap (λ (xs : List Areas). address_from most model xs (track + 1) (k - fit)) (sym (drop-drop fit before areas))
-          ∙ sym (further_on most model (drop before areas) track k over) in
+          cc (drop-drop fit before areas, further_on most model (drop before areas) track k over) in
           subst (Stands (before + k)) same here
 
   pub address_stands : All (GoesOn model) areas → (k : ℕ) → k < length areas → Stands k (address_of model areas k)
-  address_stands each k there =
-      let e : 0 + k ≡ k = omega arith in
-      subst (λ (j : ℕ). Stands j (address_of model areas k)) e
-      (stands_from each (k + 1) 0 0 k (omega arith) (omega (arith, there)) (none_behind model areas))
+  address_stands each k there = let e : 0 + k ≡ k = omega arith in subst (λ (j : ℕ). Stands j (address_of model areas k)) e
+      (stands_from each (k + 1) 0 0 k (omega arith) (omega arith) (none_behind model areas))
 
   -- how much is left from the track of a record on
   left_long : (k track number : ℕ) (s : StandsAt model areas k track number)
@@ -82,9 +73,8 @@ module _ (model : DriveModel) (areas : List Areas) where
       by (inr is) = is
       by (inl before) =
           let d = track - suc later in
-          let e : suc later + d ≡ track = omega (arith, before) in
-          let on = left_behind model areas later in
-          absurd (omega (
+          let e : suc later + d ≡ track = omega arith in
+          let on = left_behind model areas later in absurd (omega (
             arith,
             left_shrinks model areas (suc later) d,
             ap (λ (i : ℕ). length (left_behind model areas i)) e,
@@ -92,12 +82,6 @@ module _ (model : DriveModel) (areas : List Areas) where
             left_long k track number s,
             left_long j later its_number r,
             (fits_on model 0 (left_behind model areas track)).within,
-            s.place,
-            s.first,
-            s.there,
-            r.place,
-            r.there,
-            behind,
           ))
 
   -- a record stands in one place
@@ -106,7 +90,7 @@ module _ (model : DriveModel) (areas : List Areas) where
   one_place k track number other its_number s r =
       let low = in_order k k track number other its_number s r (omega arith) in
       let high = in_order k k other its_number track number r s (omega arith) in
-      let same : track ≡ other = omega (arith, low, high) in (
+      let same : track ≡ other = omega arith in (
         same,
         omega (
           arith,
@@ -114,11 +98,6 @@ module _ (model : DriveModel) (areas : List Areas) where
           left_long k track number s,
           left_long k other its_number r,
           (fits_on model 0 (left_behind model areas track)).within,
-          s.place,
-          s.first,
-          s.there,
-          r.place,
-          r.first,
         ),
       )
 
@@ -137,15 +116,12 @@ module _ (model : DriveModel) (areas : List Areas) where
       by (inl is) = is
       by (inr past) =
           let d = track - tracks in
-          let e : tracks + d ≡ track = omega (arith, past) in
-          absurd (omega (
+          let e : tracks + d ≡ track = omega arith in absurd (omega (
             arith,
             left_shrinks model areas tracks d,
             ap (λ (i : ℕ). length (left_behind model areas i)) e,
             ap length takes.all,
             (fits_on model 0 (left_behind model areas track)).within,
-            s.first,
-            s.there,
           ))
 
 -- Records of the same lengths stand in the same places.
@@ -165,20 +141,13 @@ module _ (model : DriveModel) where
       let key : length x.key_area ≡ length y.key_area = cc in
       let byte : length x.data_area ≡ length y.data_area = cc in
       let others : SameLengths xs ys = record { keys = cc; bytes = cc } in
-      let last : last_charge_for model x ≡ last_charge_for model y =
-      ap (λ (n : ℕ). last_charge_of model n (length x.data_area)) key ∙ ap (last_charge_of model (length y.key_area)) byte in
-      let charge : charge_for model x ≡ charge_for model y =
-      ap (λ (n : ℕ). charge_of model n (length x.data_area)) key ∙ ap (charge_of model (length y.key_area)) byte in
-      ap (λ (n : ℕ). if nat_le (taken + n) (capacity_of model) then suc (fitting model (taken + charge_for model x) xs) else 0) last
-      ∙ ap (λ (n : ℕ). if nat_le (taken + last_charge_for model y) (capacity_of model) then suc n else 0)
-      (ap (λ (n : ℕ). fitting model (taken + n) xs) charge ∙ same_fit (taken + charge_for model y) xs ys others)
+      let last : last_charge_for model x ≡ last_charge_for model y = cc in
+      let charge : charge_for model x ≡ charge_for model y = cc in cc (same_fit (taken + charge_for model y) xs ys others)
 
   same_left : (n : ℕ) (xs ys : List Areas) → SameLengths xs ys → SameLengths (drop n xs) (drop n ys)
   same_left n xs ys same = record {
-    keys = sym (drop-map (λ (a : Areas). length a.key_area) n xs) ∙ ap (drop n) same.keys
-        ∙ drop-map (λ (a : Areas). length a.key_area) n ys;
-    bytes = sym (drop-map (λ (a : Areas). length a.data_area) n xs) ∙ ap (drop n) same.bytes
-        ∙ drop-map (λ (a : Areas). length a.data_area) n ys;
+    keys = cc (drop-map (λ (a : Areas). length a.key_area) n xs, drop-map (λ (a : Areas). length a.key_area) n ys);
+    bytes = cc (drop-map (λ (a : Areas). length a.data_area) n xs, drop-map (λ (a : Areas). length a.data_area) n ys);
   }
 
   pub same_address : (most : ℕ) (xs ys : List Areas) (track k : ℕ) → SameLengths xs ys
@@ -188,6 +157,4 @@ module _ (model : DriveModel) where
   same_address (suc most) xs ys track k same =
       let here : RelativeAddress = record { track = track; number = k + 1 } in
       let fit = fitting_on model ys in
-      ap (λ (n : ℕ). if nat_lt k n then here else address_from most model (drop n xs) (track + 1) (k - n)) (same_fit 0 xs ys same)
-      ∙ ap (λ (a : RelativeAddress). if nat_lt k fit then here else a)
-      (same_address most (drop fit xs) (drop fit ys) (track + 1) (k - fit) (same_left fit xs ys same))
+      cc (same_fit 0 xs ys same, same_address most (drop fit xs) (drop fit ys) (track + 1) (k - fit) (same_left fit xs ys same))

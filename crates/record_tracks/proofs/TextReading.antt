@@ -1,27 +1,232 @@
--- Records are read as the lines that they were made of.
-use Rattle.std.proofs.Common.{◌≡◌, ◌∙◌, ◌≤◌, ◌+◌, ◌-◌, ◌*◌, ◌==◌, inl, inr, ℕ, zero, suc, Bool, true, false, cond, List, [], ◌∷◌, ◌++◌}
-use Rattle.std.proofs.Common.{length, take, drop, ap, ap₂, refl, sym, subst, arith, length-append, append_assoc, append-nil, Some, None}
-use Rattle.std.proofs.Common.{Result, Ok, Err, flat_map}
-use Rattle.std.specs.Prelude.{slice_range}
-use Rattle.std.proofs.lemmas.List.{drop-drop}
-use Rattle.std.proofs.lemmas.Bool.{le-ltb, eqb-true}
+-- Blanks at the end of bytes of EBCDIC, and at the end of the text that these are.
+use Rattle.std.proofs.Common.{◌≡◌, ◌≢◌, ◌∙◌, ◌<◌, ◌≤◌, ◌+◌, ◌-◌, ◌==◌, ℕ, zero, suc, Bool, true, false, cond, List, [], ◌∷◌, ◌++◌, length}
+use Rattle.std.proofs.Common.{take, get_or, reverse, replicate, ap, refl, sym, subst, arith, append_assoc, append-nil, length-append, ◌⊎◌}
+use Rattle.std.proofs.Common.{inl, inr, ◌||◌, not, nat_lt, nat_le, ◌&&◌, ap₂, Option, Some, None, Ok, Err, ◌*◌, drop, Result, flat_map}
+use Rattle.std.specs.List.{range_with_len, suffix_len, prefix_len, list_all}
+use Rattle.std.proofs.lemmas.List.{drop_all, take_at, get_or_past, reverse-append, reverse-reverse, take_all, take-append-le}
+use Rattle.std.proofs.lemmas.List.{get_or-append_right, length-replicate}
+use Rattle.std.proofs.lemmas.List.FromFn.{get_or-range_with_len, length-range_with_len}
+use Rattle.std.specs.Prelude.{encode_utf8, position, slice_range}
+use Rattle.std.proofs.lemmas.List.Concat.{flat_map-append}
+use Rattle.std.proofs.lemmas.List.Sums.{suffix_len-take_no, AllPass-from_list_all}
+use Rattle.std.proofs.Math.Seq.{take-append-add, drop-append-add, drop-append_seam}
+use Rattle.std.proofs.lemmas.Bool.{eq-eqb, ne_eqb, eqb-true, ltb-true, ltb-false, cases_eq, le-ltb}
+use Rattle.std.proofs.lemmas.Str.{encode_ascii, inside_one, length-encode, len_utf8_bounds, encodes-chars, IsUtf8-from_is_utf8}
+use Rattle.volume_labels.specs.Ebcdic.{code_page_037, character_of}
+use Rattle.volume_labels.specs.Lines.{is_blank, without_blanks}
+use Rattle.dasd_extract.specs.Blocks.{text_character, text_of, is_control, line_of, lines_from, on_piece}
+use Rattle.record_tracks.specs.Read as read
+use Rattle.std.specs.Str.{is_utf8, chars, encode_utf8_all}
+use Rattle.std.proofs.lemmas.List.Quantifiers.{position-Some}
+use Rattle.record_tracks.specs.declared.text_faults.TextLineFault.{TextLineFault}
+use Rattle.record_tracks.specs.declared.text_faults.TextLineFault.TheVariants.{TooLong, NoCharacter}
+use Rattle.record_tracks.specs.Codes.{code_of, codes_of, line_codes, before}
+use Rattle.record_tracks.specs.TextRecords.{padded, record_with, record_of, and_records, records_from, records_of}
 use Rattle.volume_labels.specs.declared.records.RecordForm.TheVariants.{Fixed}
 use Rattle.volume_labels.specs.declared.records.Segment.TheVariants.{Whole}
 use Rattle.volume_labels.specs.Records.{fixed_record}
 use Rattle.dasd_extract.specs.Written.{Written, these_bytes, behind, nothing}
-use Rattle.dasd_extract.specs.Blocks.{lines_from, on_piece, line_of}
 use Rattle.record_tracks.specs.declared.text_faults.TextRecordsFault.{TextRecordsFault}
-use Rattle.record_tracks.specs.declared.text_faults.TextLineFault.{TextLineFault}
 use Rattle.record_tracks.specs.Lines.{lines_of, in_front}
-use Rattle.record_tracks.specs.TextRecords.{record_of, and_records, records_from, records_of}
-use Rattle.record_tracks.specs.Read.{ended, without_blanks, AreLinesOf, IsReadAsLines, IsReadAsText}
-use Rattle.record_tracks.proofs.Encoded.{IsRecord, is_record}
+use Rattle.record_tracks.specs.Read.{ended, AreLinesOf, IsReadAsLines, IsReadAsText}
 
-is_other : (a b : ℕ) → (a ≡ b → ⊥) → (a == b) ≡ false
-is_other a b differs = grind arith
+-- without the elements at the end that pass
+abbrev pub cut : (ℕ → Bool) → List ℕ → List ℕ
+cut p l = take (length l - suffix_len p l) l
 
-is_same : (a b : ℕ) → a ≡ b → (a == b) ≡ true
-is_same a b same = grind arith
+module _ (p : ℕ → Bool) where
+  one_more : (l : List ℕ) (x : ℕ) → suffix_len p (l ++ x ∷ []) ≡ cond (p x) (1 + suffix_len p l) 0
+  one_more l x = ap (prefix_len p) (reverse-append l (x ∷ []))
+
+  pub cut_one : (l : List ℕ) (x : ℕ) → p x ≡ true → cut p (l ++ x ∷ []) ≡ cut p l
+  cut_one l x passes = ap (λ n. take n (l ++ x ∷ [])) {y = length l - suffix_len p l} (omega (arith, length-append l (x ∷ []), counted))
+      ∙ take-append-le (length l - suffix_len p l) l (x ∷ []) (omega arith)
+    where
+      counted : suffix_len p (l ++ x ∷ []) ≡ 1 + suffix_len p l
+      counted = cc (one_more l x)
+
+  -- the last element does not pass
+  pub kept : (l : List ℕ) → 0 < length l → p (get_or l (length l - 1) 0) ≡ false → cut p l ≡ l
+  kept l some fails = ap (λ n. take n l) {y = length l} (omega (arith, none)) ∙ take_all (length l) l (omega arith)
+    where
+      none : suffix_len p l ≡ 0
+      none = cc (take_all (length l) l (omega arith), suffix_len-take_no p l (length l) 0 some (omega arith) fails)
+
+-- blanks behind bytes are cut with those at their end
+pub filled : (n : ℕ) (l : List ℕ) → without_blanks (l ++ replicate n 0x40) ≡ without_blanks l
+filled zero l = ap without_blanks (append-nil l)
+filled (suc n) l = cc (append_assoc l (0x40 ∷ []) (replicate n 0x40), filled n (l ++ 0x40 ∷ []), cut_one is_blank l 0x40 refl)
+
+-- A blank is a blank in both, and no other byte is.
+blank_is : text_character 0x40 ≡ 32
+unfolding code_page_037
+blank_is = refl
+
+other_is_none : ℕ → Bool
+other_is_none b = (b == 0x40) || not (text_character b == 32)
+
+all_others : list_all other_is_none (range_with_len 0 256) ≡ true
+unfolding code_page_037 other_is_none
+all_others = refl
+
+either : (s t : Bool) → (s || not t) ≡ true → t ≡ true → s ≡ true
+either true t e h = refl
+either false true e h = e
+either false false e h = absurd cc
+
+-- behind the table there is no character
+past : (b : ℕ) → 256 ≤ b → text_character b ≡ 0xFFFD
+unfolding code_page_037
+past b outside = ap (λ c. cond (nat_lt c 32 || (nat_le 127 c && nat_lt c 160)) 0xFFFD c) (get_or_past code_page_037 b 0 outside)
+
+only_blank : (b : ℕ) → text_character b ≡ 32 → b ≡ 0x40
+unfolding other_is_none
+only_blank b is = go (nat_lt b 256) refl
+  where
+    inside : b < 256 → other_is_none b ≡ true
+    inside h = ap other_is_none (sym (get_or-range_with_len 0 256 b 0 h ∙ omega arith))
+        ∙ AllPass-from_list_all other_is_none (range_with_len 0 256) all_others b 0 (omega (arith, length-range_with_len 0 256))
+
+    go : (t : Bool) → t ≡ nat_lt b 256 → b ≡ 0x40
+    go true e =
+        eqb-true b 0x40 (either (b == 0x40) (text_character b == 32) (inside (ltb-true b 256 (sym e))) (eq-eqb (text_character b) 32 is))
+    go false e = absurd (differ (text_character b) is (past b (ltb-false b 256 (sym e))))
+      where
+        differ : (c : ℕ) → c ≡ 32 → c ≡ 0xFFFD → ⊥
+        differ c e f = omega arith
+
+module _ (front : List ℕ) (b : ℕ) where
+  text_more : text_of (front ++ b ∷ []) ≡ text_of front ++ encode_utf8 (text_character b)
+  text_more = cc (flat_map-append (λ b. encode_utf8 (text_character b)) front (b ∷ []), append-nil (encode_utf8 (text_character b)))
+
+  -- no other character ends with the byte of a blank
+  last_byte : b ≢ 0x40 → (l : List ℕ) → l ≡ encode_utf8 (text_character b) → (get_or l (length l - 1) 0 == 32) ≡ false
+  last_byte differs l is = ne_eqb (get_or l (length l - 1) 0) 32 (λ e. differs (only_blank b (character e)))
+    where
+      some : 1 ≤ length l
+      some = omega (arith, ap length is, length-encode (text_character b), (len_utf8_bounds (text_character b)).0)
+
+      character : get_or l (length l - 1) 0 ≡ 32 → text_character b ≡ 32
+      character e = inside_one (text_character b) [] l (length l - 1) (is
+          ∙ sym (append-nil (encode_utf8 (text_character b)))) (omega (arith, some, ap length is))
+          (omega arith) ∙ e
+
+  -- one byte more
+  by_last : text_of (without_blanks front) ≡ read.without_blanks (text_of front)
+      → text_of (without_blanks (front ++ b ∷ [])) ≡ read.without_blanks (text_of (front ++ b ∷ []))
+  by_last h = go (cases_eq b 0x40)
+    where
+      row : List ℕ
+      row = encode_utf8 (text_character b)
+
+      some : 1 ≤ length row
+      some = omega (arith, length-encode (text_character b), (len_utf8_bounds (text_character b)).0)
+
+      at_end : get_or (text_of front ++ row) (length (text_of front ++ row) - 1) 0 ≡ get_or row (length row - 1) 0
+      at_end = get_or-append_right (text_of front) row (length (text_of front)) (length (text_of front ++ row) - 1) 0 refl
+          (omega (arith, length-append (text_of front) row, some))
+          ∙ ap (λ n. get_or row n 0) (omega (arith, length-append (text_of front) row, some))
+
+      go : (b ≡ 0x40) ⊎ (b ≡ 0x40 → ⊥) → text_of (without_blanks (front ++ b ∷ [])) ≡ read.without_blanks (text_of (front ++ b ∷ []))
+      go (inl same) = cc (
+        cut_one is_blank front b (eq-eqb b 0x40 same),
+        cut_one (λ it. it == 32) (text_of front) 32 refl,
+        encode_ascii 32 (omega arith),
+        ap (λ c. read.without_blanks (text_of front ++ encode_utf8 c)) {x = 32} (sym blank_is ∙ ap text_character (sym same)),
+        text_more,
+      )
+      go (inr differs) = cc (
+        kept is_blank (front ++ b ∷ []) (omega (arith, length-append front (b ∷ []))) last_of_bytes,
+        text_more,
+        kept (λ it. it == 32) (text_of front ++ row) (omega (arith, length-append (text_of front) row, some))
+            (ap (λ d. d == 32) at_end ∙ last_byte differs row refl),
+      )
+        where
+          last_of_bytes : is_blank (get_or (front ++ b ∷ []) (length (front ++ b ∷ []) - 1) 0) ≡ false
+          last_of_bytes = ap is_blank (get_or-append_right front (b ∷ []) (length front) (length (front ++ b ∷ []) - 1) 0 refl
+              (omega (arith, length-append front (b ∷ [])))
+              ∙ ap (λ n. get_or (b ∷ []) n 0) {y = 0} (omega (arith, length-append front (b ∷ [])))) ∙ ne_eqb b 0x40 differs
+
+-- The blanks at the end of bytes are those at the end of their text.
+cut_reversed : (rest : List ℕ) → text_of (without_blanks (reverse rest)) ≡ read.without_blanks (text_of (reverse rest))
+cut_reversed [] = refl
+cut_reversed (b ∷ rest) = subst (λ l. text_of (without_blanks l) ≡ read.without_blanks (text_of l)) (sym (reverse-append (b ∷ []) rest))
+    (by_last (reverse rest) b (cut_reversed rest))
+
+pub cut_text : (codes : List ℕ) → text_of (without_blanks codes) ≡ read.without_blanks (text_of codes)
+cut_text codes = cc (reverse-reverse codes, cut_reversed (reverse codes))
+
+-- the byte of a character is written as it
+code_read : (c b : ℕ) → code_of c ≡ Some b → text_character b ≡ c
+code_read c b is = go (is_control c) refl
+  where
+    go : (t : Bool) → is_control c ≡ t → text_character b ≡ c
+    go true e = absurd (none (cc))
+      where
+        none : None ≡ Some b → ⊥
+        none e = absurd cc
+    go false e =
+        let found = sym (ap (λ t. cond t None (position (λ (it : ℕ). it == c) code_page_037)) e) ∙ is in
+        let same = eqb-true (character_of b) c (position-Some (λ (it : ℕ). it == c) code_page_037 b 0 found).1 in cc
+
+parts : (a : Option ℕ) (x : Option (List ℕ)) (codes : List ℕ) → before a x ≡ Some codes
+    → (b : ℕ) × (bs : List ℕ) × (a ≡ Some b) × (x ≡ Some bs) × (b ∷ bs ≡ codes)
+parts None x codes e = absurd (cc)
+parts (Some b) None codes e = absurd (cc)
+parts (Some b) (Some bs) codes e = (b, bs, refl, refl, cc)
+
+unfolded : (c : ℕ) (cs : List ℕ) → codes_of (c ∷ cs) ≡ before (code_of c) (codes_of cs)
+unfolding codes_of
+unfolded c cs = refl
+
+no_codes : (codes : List ℕ) → codes_of [] ≡ Some codes → codes ≡ []
+unfolding codes_of
+no_codes codes e = cc
+
+-- the bytes of characters are written as these
+codes_read : (cs codes : List ℕ) → codes_of cs ≡ Some codes → text_of codes ≡ encode_utf8_all cs
+codes_read [] codes e = ap text_of (no_codes codes e)
+codes_read (c ∷ cs) codes e =
+    let p = parts (code_of c) (codes_of cs) codes (sym (unfolded c cs) ∙ e) in
+    ap text_of (sym p.4) ∙ ap₂ (λ (d : ℕ) (t : List ℕ). encode_utf8 d ++ t) (code_read c p.0 p.2) (codes_read cs p.1 p.3)
+
+-- so a line is
+line_read : (line codes : List ℕ) → line_codes line ≡ Some codes → text_of codes ≡ line
+line_read line codes is = go (is_utf8 line) refl
+  where
+    go : (t : Bool) → is_utf8 line ≡ t → text_of codes ≡ line
+    go true e = codes_read (chars line) codes (cc) ∙ encodes-chars line (IsUtf8-from_is_utf8 line e)
+    go false e = absurd (none (cc))
+      where
+        none : None ≡ Some codes → ⊥
+        none e = absurd cc
+
+-- A record is as long as it is wanted, and is read as its line.
+pub record IsRecord (size : ℕ) (line bytes : List ℕ) : Type 0 where
+  pub long : length bytes ≡ size
+  pub read : line_of bytes ≡ read.ended (read.without_blanks line)
+
+pub is_record : (size : ℕ) (line bytes : List ℕ) → record_of size line ≡ Ok bytes → IsRecord size line bytes
+is_record size line bytes is = with_codes (line_codes line) refl is
+  where
+    no_bytes : (f : TextLineFault) → Err f ≡ Ok bytes → ⊥
+    no_bytes f e = absurd cc
+
+    there : (codes : List ℕ) → line_codes line ≡ Some codes → length codes ≤ size → padded size codes ≡ bytes → IsRecord size line bytes
+    there codes e short same = record {
+      long = ap length (sym same) ∙ length-append codes (replicate (size - length codes) 0x40)
+          ∙ ap (λ n. length codes + n) (length-replicate (size - length codes) 0x40) ∙ omega arith;
+      read = cc (filled (size - length codes) codes, cut_text codes, line_read line codes e);
+    }
+
+    fitting : (t : Bool) (codes : List ℕ) → t ≡ nat_lt size (length codes) → line_codes line ≡ Some codes
+        → cond t (Err TooLong) (Ok (padded size codes)) ≡ Ok bytes → IsRecord size line bytes
+    fitting true codes long e same = absurd (no_bytes TooLong same)
+    fitting false codes short e same = there codes e (ltb-false size (length codes) (sym short)) cc
+
+    with_codes : (o : Option (List ℕ)) → line_codes line ≡ o → record_with size o ≡ Ok bytes → IsRecord size line bytes
+    with_codes None e same = absurd (no_bytes NoCharacter same)
+    with_codes (Some codes) e same = fitting (nat_lt size (length codes)) codes refl e same
 
 -- Bytes are the records of lines, one behind another.
 pub record Joins (size : ℕ) (line : List ℕ) (bytes others : List ℕ) : Type 0 where
@@ -35,7 +240,7 @@ AreRecords size (line ∷ lines) bytes = (others : List ℕ) × Joins size line 
 
 -- what they are read as
 abbrev pub text_read : List (List ℕ) → List ℕ
-text_read lines = flat_map (λ line. ended (without_blanks line)) lines
+text_read lines = flat_map (λ line. ended (read.without_blanks line)) lines
 
 one : (size number : ℕ) (l : List ℕ) (ls : List (List ℕ))
     → records_from size number (l ∷ ls) ≡ and_records number (record_of size l) (records_from size (number + 1) ls)
@@ -47,8 +252,7 @@ unfolding records_from
 no_records size number bytes e = cc
 
 both : (number : ℕ) (r : Result (List ℕ) TextLineFault) (more : Result (List ℕ) TextRecordsFault) (bytes : List ℕ)
-    → and_records number r more ≡ Ok bytes
-    → (a : List ℕ) × (b : List ℕ) × (r ≡ Ok a) × (more ≡ Ok b) × (bytes ≡ a ++ b)
+    → and_records number r more ≡ Ok bytes → (a : List ℕ) × (b : List ℕ) × (r ≡ Ok a) × (more ≡ Ok b) × (bytes ≡ a ++ b)
 both number (Ok a) (Ok b) bytes e = (a, b, refl, refl, cc)
 both number (Ok a) (Err f) bytes e = absurd (cc)
 both number (Err f) more bytes e = absurd (cc)
@@ -62,60 +266,31 @@ are_records size number (l ∷ ls) bytes e =
 
 -- A part of them.
 
-past : (first others : List ℕ) → drop (length first) (first ++ others) ≡ others
-past [] others = refl
-past (x ∷ first) others = past first others
-
-up_to : (first others : List ℕ) (n : ℕ) → take (length first + n) (first ++ others) ≡ first ++ take n others
-up_to [] others n = ap (λ k. take k others) (omega arith)
-up_to (x ∷ first) others n =
-    ap (λ k. take k (x ∷ first ++ others)) {x = suc (length first) + n} {y = suc (length first + n)} (omega arith)
-    ∙ ap (λ l. x ∷ l) (up_to first others n)
-
-one_more : (size n k : ℕ) → k ≡ size → suc n * size ≡ k + n * size
-one_more size n k e = omega (arith, e)
+size_more : (size n k : ℕ) → k ≡ size → suc n * size ≡ k + n * size
+size_more size n k e = omega arith
 
 behind_first : (size n : ℕ) (first others : List ℕ) → length first ≡ size → drop (suc n * size) (first ++ others) ≡ drop (n * size) others
-behind_first size n first others long =
-    ap (λ k. drop k (first ++ others)) (one_more size n (length first) long) ∙ sym (drop-drop (n * size) (length first) (first ++ others))
-    ∙ ap (drop (n * size)) (past first others)
+behind_first size n first others long = cc (size_more size n (length first) long, drop-append-add first others (n * size))
 
 with_first : (size n : ℕ) (first others : List ℕ) → length first ≡ size
     → take (suc n * size) (first ++ others) ≡ first ++ take (n * size) others
-with_first size n first others long =
-    ap (λ k. take k (first ++ others)) (one_more size n (length first) long) ∙ up_to first others (n * size)
-
-nothing_left : (n : ℕ) → drop {A = ℕ} n [] ≡ []
-nothing_left zero = refl
-nothing_left (suc n) = refl
-
-nothing_there : (n : ℕ) → take {A = ℕ} n [] ≡ []
-nothing_there zero = refl
-nothing_there (suc n) = refl
-
-none_of : (size : ℕ) → 0 ≡ 0 * size
-none_of size = omega arith
+with_first size n first others long = cc (size_more size n (length first) long, take-append-add first others (n * size))
 
 dropped : (size n : ℕ) (lines : List (List ℕ)) (bytes : List ℕ) → AreRecords size lines bytes
     → AreRecords size (drop n lines) (drop (n * size) bytes)
-dropped size zero lines bytes h = subst (λ k. AreRecords size lines (drop k bytes)) (none_of size) h
-dropped size (suc n) [] bytes h = ap (drop (suc n * size)) h ∙ nothing_left (suc n * size)
-dropped size (suc n) (l ∷ ls) bytes h =
-    subst (AreRecords size (drop n ls))
-    (sym (ap (drop (suc n * size)) h.1.joined ∙ behind_first size n h.1.first h.0 h.1.is_record.long))
+dropped size zero lines bytes h = let none : 0 ≡ 0 * size = omega arith in subst (λ k. AreRecords size lines (drop k bytes)) none h
+dropped size (suc n) [] bytes h = cc (drop_all {X = ℕ} (suc n * size) [] (omega arith))
+dropped size (suc n) (l ∷ ls) bytes h = subst (AreRecords size (drop n ls))
+    (sym (cc (behind_first size n h.1.first h.0 h.1.is_record.long)))
     (dropped size n ls h.0 h.2)
 
 taken : (size n : ℕ) (lines : List (List ℕ)) (bytes : List ℕ) → AreRecords size lines bytes
     → AreRecords size (take n lines) (take (n * size) bytes)
-taken size zero lines bytes h = ap (λ k. take k bytes) (sym (none_of size))
-taken size (suc n) [] bytes h = ap (take (suc n * size)) h ∙ nothing_there (suc n * size)
+taken size zero lines bytes h = ap (λ k. take k bytes) {x = 0 * size} {y = 0} (omega arith)
+taken size (suc n) [] bytes h = cc (take_all {A = ℕ} (suc n * size) [] (omega arith))
 taken size (suc n) (l ∷ ls) bytes h = (
   take (n * size) h.0,
-  record {
-    first = h.1.first;
-    joined = ap (take (suc n * size)) h.1.joined ∙ with_first size n h.1.first h.0 h.1.is_record.long;
-    is_record = h.1.is_record;
-  },
+  record { first = h.1.first; joined = cc (with_first size n h.1.first h.0 h.1.is_record.long); is_record = h.1.is_record },
   taken size n ls h.0 h.2,
 )
 
@@ -131,53 +306,46 @@ module _ (size track number : ℕ) (some : 1 ≤ size) where
   no_step block at = refl
 
   at_end : (block : List ℕ) (at : ℕ) → at ≡ length block → fixed_record size block at ≡ Ok None
-  at_end block at e = rw (is_same at (length block) e) refl
+  at_end block at e = rw (eq-eqb at (length block) e) refl
 
   there : (block : List ℕ) (at : ℕ) → at + size ≤ length block
       → fixed_record size block at ≡ Ok (Some (record { start = at; end = at + size; segment = Whole }))
-  there block at within =
-      rw (
-        is_other at (length block) (apart at (length block) within),
-        is_other size 0 (apart_zero some),
-        le-ltb (length block - at) size (omega (arith, within)),
-      ) refl
+  there block at within = rw (
+    ne_eqb at (length block) (apart at (length block) within),
+    ne_eqb size 0 (apart_zero some),
+    le-ltb (length block - at) size (omega arith),
+  ) refl
     where
       apart : (a n : ℕ) → a + size ≤ n → a ≡ n → ⊥
-      apart a n h e = omega (arith, h, e, some)
+      apart a n h e = omega (arith, some)
 
       apart_zero : 1 ≤ size → size ≡ 0 → ⊥
-      apart_zero h e = omega (arith, h, e)
+      apart_zero h e = omega arith
 
   none : (most : ℕ) (block : List ℕ) (at : ℕ) → at ≡ length block → lines_from most (Fixed size) track number block at ≡ these_bytes []
   none zero block at e = no_step block at
-  none (suc most) block at e = step most block at ∙ ap (λ r. on_piece track number block r
-      (lines_from most (Fixed size) track number block)) (at_end block at e)
+  none (suc most) block at e = cc (step most block at, at_end block at e)
 
   slice_there : (front rest first others : List ℕ) → rest ≡ first ++ others → length first ≡ size
       → slice_range (front ++ rest) (length front) (length front + size) ≡ first
   slice_there front rest first others e long =
-      ap (λ l. take (length front + size - length front) l) (past front rest ∙ e)
-      ∙ ap (λ n. take n (first ++ others)) {y = length first + 0} (omega (arith, long))
-      ∙ up_to first others 0 ∙ append-nil first
+      let far : length front + size - length front ≡ size = omega arith in cc (drop-append_seam front rest, take_at first others size long)
 
   read_from : (lines : List (List ℕ)) (front rest : List ℕ) (most : ℕ) → AreRecords size lines rest → length rest ≤ most
       → lines_from most (Fixed size) track number (front ++ rest) (length front) ≡ these_bytes (text_read lines)
   read_from [] front rest most h enough = none most (front ++ rest) (length front) (omega (arith, length-append front rest, ap length h))
-  read_from (l ∷ ls) front rest zero h enough =
-      absurd (omega (arith, some, enough, ap length h.1.joined, length-append h.1.first h.0, h.1.is_record.long))
-  read_from (l ∷ ls) front rest (suc most) h enough =
-      step most (front ++ rest) (length front)
+  read_from (l ∷ ls) front rest zero h enough = absurd (omega (arith, some, ap length h.1.joined, length-append h.1.first h.0))
+  read_from (l ∷ ls) front rest (suc most) h enough = step most (front ++ rest) (length front)
       ∙ ap (λ r. on_piece track number (front ++ rest) r (lines_from most (Fixed size) track number (front ++ rest)))
       (there (front ++ rest) (length front) (omega (arith, length-append front rest, long)))
       ∙ ap₂ (λ (t : List ℕ) (w : Written). behind None t w)
       (ap line_of (slice_there front rest h.1.first h.0 h.1.joined h.1.is_record.long) ∙ h.1.is_record.read)
       (ap₂ (λ (b : List ℕ) (a : ℕ). lines_from most (Fixed size) track number b a)
       (ap (λ r. front ++ r) h.1.joined ∙ sym (append_assoc front h.1.first h.0))
-      (omega (arith, length-append front h.1.first, h.1.is_record.long))
-      ∙ read_from ls (front ++ h.1.first) h.0 most h.2 (omega (arith, enough, long, some)))
+      (omega (arith, length-append front h.1.first)) ∙ read_from ls (front ++ h.1.first) h.0 most h.2 (omega (arith, long, some)))
     where
       long : length rest ≡ size + length h.0
-      long = omega (arith, ap length h.1.joined, length-append h.1.first h.0, h.1.is_record.long)
+      long = omega (arith, ap length h.1.joined, length-append h.1.first h.0)
 
 -- each block of whole records
 pub read_as_lines : (size : ℕ) (lines : List (List ℕ)) (bytes : List ℕ) → 1 ≤ size → AreRecords size lines bytes

@@ -1,6 +1,6 @@
 -- The bytes of characters, one after another.
-use Rattle.std.proofs.Common.{◌≡◌, ◌∙◌, ◌<◌, ◌≤◌, ◌+◌, ℕ, true, List, [], ◌∷◌, ◌++◌, length, drop, get_or, append_assoc, append-nil}
-use Rattle.std.proofs.Common.{ap, refl, sym, Option, Some, None}
+use Rattle.std.proofs.Common.{◌≡◌, ◌<◌, ◌≤◌, ◌+◌, ℕ, true, List, [], ◌∷◌, ◌++◌, length, drop, get_or, append_assoc, append-nil, ap, refl}
+use Rattle.std.proofs.Common.{sym, Option, Some, None}
 use Rattle.std.proofs.lemmas.List.{at_drop_more, at_drop_all}
 use Rattle.record_tracks.specs.Codes.{code_of, codes_of, before}
 use Rattle.record_tracks.specs.Putting.{PutsCodes}
@@ -32,8 +32,7 @@ unfolding codes_of
 none_left = refl
 
 next : (cs : List ℕ) (n c : ℕ) → n < length cs → c ≡ get_or cs n c → codes_of (drop n cs) ≡ before (code_of c) (codes_of (drop (n + 1) cs))
-next cs n c inside is =
-    at_drop_more codes_of cs n c inside ∙ ap (λ d. codes_of (d ∷ drop (n + 1) cs)) (sym is) ∙ one c (drop (n + 1) cs)
+next cs n c inside is = cc (at_drop_more codes_of cs n c inside, one c (drop (n + 1) cs))
 
 shifted : (bytes : List ℕ) (byte : ℕ) (o : Option (List ℕ)) → behind bytes (before (Some byte) o) ≡ behind (bytes ++ byte ∷ []) o
 shifted bytes byte None = refl
@@ -41,26 +40,18 @@ shifted bytes byte (Some l) = ap Some (sym (append_assoc bytes (byte ∷ []) l))
 
 -- one character more
 pub one_spelled : (cs start now after : List ℕ) (n c byte : ℕ) → (n < length cs) × (c ≡ get_or cs n c) → SpelledTo cs n start now
-    → Some byte ≡ code_of c
-    → after ≡ now ++ byte ∷ [] → SpelledTo cs (n + 1) start after
+    → Some byte ≡ code_of c → after ≡ now ++ byte ∷ [] → SpelledTo cs (n + 1) start after
 one_spelled cs start now after n c byte at h is put = record {
   bytes = h.bytes ++ byte ∷ [];
-  put = put ∙ ap (λ l. l ++ byte ∷ []) h.put ∙ append_assoc start h.bytes (byte ∷ []);
-  rest =
-      h.rest ∙ ap (behind h.bytes) (next cs n c at.0 at.1 ∙ ap (λ o. before o (codes_of (drop (n + 1) cs))) (sym is))
-      ∙ shifted h.bytes byte (codes_of (drop (n + 1) cs));
+  put = cc (put, append_assoc start h.bytes (byte ∷ []));
+  rest = cc (next cs n c at.0 at.1, shifted h.bytes byte (codes_of (drop (n + 1) cs)));
 }
 
 -- a character that has no byte
 pub not_spelled : (cs start now : List ℕ) (n c : ℕ) → (n < length cs) × (c ≡ get_or cs n c) → SpelledTo cs n start now → None ≡ code_of c
     → codes_of cs ≡ None
-not_spelled cs start now n c at h is =
-    h.rest ∙ ap (behind h.bytes) (next cs n c at.0 at.1 ∙ ap (λ o. before o (codes_of (drop (n + 1) cs))) (sym is))
+not_spelled cs start now n c at h is = cc (next cs n c at.0 at.1)
 
 -- all characters have bytes
 pub all_spelled : (cs start now : List ℕ) (n : ℕ) → length cs ≤ n → SpelledTo cs n start now → PutsCodes (codes_of cs) start now true
-all_spelled cs start now n all h = (
-  h.bytes,
-  h.rest ∙ ap (behind h.bytes) (at_drop_all codes_of cs n all ∙ none_left) ∙ ap Some (append-nil h.bytes),
-  h.put,
-)
+all_spelled cs start now n all h = (h.bytes, cc (at_drop_all codes_of cs n all, none_left, append-nil h.bytes), h.put)

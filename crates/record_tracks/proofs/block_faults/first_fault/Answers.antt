@@ -17,8 +17,7 @@ returns-then-is_empty c =
     let b = c.args.blocks in
     let why = fault_of_first c.args.model c.args.layout c.args.key_length b.cut in
     let empty = is_empty _ c.is_empty.result c.is_empty.ensures c.if-is_empty.true in
-    let none = none_left b.cut (length b.bytes.now - c.loop-k.k) c.loop-k.rest.now empty in
-    sym (c.loop-k.invariant ∙ ap (λ (rests : List (List ℕ)). first_fault why rests c.loop-k.k) none ∙ no_fault why c.loop-k.k)
+    let none = none_left b.cut (length b.bytes.now - c.loop-k.k) c.loop-k.rest.now empty in sym (cc (no_fault why c.loop-k.k))
 
 -- what is said of the next one
 said : (c : After-fault_of_first) → first_fault (fault_of_first c.args.model c.args.layout c.args.key_length c.args.blocks.cut)
@@ -35,9 +34,7 @@ said c =
     let why = fault_of_first c.args.model c.args.layout c.args.key_length b.cut in
     let others = rests_to b.cut (size - (k + 1)) (drop (size_of b.cut rest) rest) in
     let some : 1 ≤ length rest = has_some _ c.is_empty.result c.is_empty.ensures c.if-is_empty.false in
-    ap (λ (rests : List (List ℕ)). first_fault why rests k) (next_rest b.cut size k rest c.loop-k-test.true some)
-    ∙ next_fault why rest others k
-    ∙ ap (λ (o : Option DescribedFault). or_next k o (first_fault why others)) (sym c.fault_of_first.ensures)
+    cc (next_rest b.cut size k rest c.loop-k-test.true some, next_fault why rest others k)
 
 pub returns-in-Some : goal.returns-in-Some
 returns-in-Some c =
@@ -63,5 +60,4 @@ pub returns : goal.returns
 returns c =
     let b = c.args.blocks in
     let why = fault_of_first c.args.model c.args.layout c.args.key_length b.cut in
-    let none = at_last b.cut (length b.bytes.now) c.loop-k.k c.loop-k.rest.now c.loop-k-test.false in
-    sym (c.loop-k.invariant ∙ ap (λ (rests : List (List ℕ)). first_fault why rests c.loop-k.k) none ∙ no_fault why c.loop-k.k)
+    let none = at_last b.cut (length b.bytes.now) c.loop-k.k c.loop-k.rest.now c.loop-k-test.false in sym (cc (no_fault why c.loop-k.k))

@@ -1,18 +1,17 @@
-use Rattle.std.proofs.Common.{◌∙◌, ap, sym, ◌+◌, ◌-◌, ◌≤◌, ◌++◌, ◌∷◌, [], length, map, drop, List, ℕ}
+use Rattle.std.proofs.Common.{◌∙◌, ap, sym, ◌+◌, ◌-◌, ◌≤◌, ◌++◌, ◌∷◌, [], length, map, List, ℕ}
 use Rattle.std.proofs.lemmas.List.{map-append}
 use Rattle.ckd_track.proofs.Offsets.{are_bytes}
 use Rattle.record_tracks.specs.Records.{Areas, areas_of, all_areas}
-use Rattle.record_tracks.specs.Blocks.{size_of, first_areas, rests_to}
+use Rattle.record_tracks.specs.Blocks.{first_areas, rests_to}
 use Rattle.record_tracks.proofs.Rests.{is_empty, has_some, none_left, next_areas, areas_end, at_first, at_last}
 use Rattle.record_tracks.proofs.cut_records.push_blocks.Goals as goal
 
 pub loop-k-init : goal.loop-k-init
-loop-k-init c =
-    record {
-      all = ap (λ (rests : List (List ℕ)). all_areas c.args.records.now.items ++ map (first_areas c.args.cut) rests)
-          (sym (at_first c.args.cut c.args.bytes.now));
-      bytes = are_bytes c.args.bytes.now c.type_inv.bytes;
-    }
+loop-k-init c = record {
+  all = ap (λ (rests : List (List ℕ)). all_areas c.args.records.now.items ++ map (first_areas c.args.cut) rests)
+      (sym (at_first c.args.cut c.args.bytes.now));
+  bytes = are_bytes c.args.bytes.now c.type_inv.bytes;
+}
 
 -- no block is left
 pub returns-then-is_empty-clause-records : goal.returns-then-is_empty-clause-records
@@ -30,13 +29,11 @@ loop-k-preserved c =
     let before = c.loop-k.records.items in
     let items = c.in_ok-push.ensures.items in
     let some : 1 ≤ length rest = has_some _ c.is_empty.result c.is_empty.ensures c.if-is_empty.false in
-    let others : List ℕ → List Areas = λ (left : List ℕ). map (first_areas cut) (rests_to cut (size - (c.loop-k._k + 1)) left) in
-    record {
-      all = ap (λ (left : List ℕ). all_areas c.push.new.self.items ++ others left) c.behind_first-rest.ensures
-          ∙ ap (λ (xs : List Areas). xs ++ others (drop (size_of cut rest) rest)) (ap all_areas items
-          ∙ map-append areas_of before (c.first_record.result ∷ [])
-          ∙ ap (λ (a : Areas). all_areas before ++ a ∷ []) c.first_record.ensures)
-          ∙ sym (next_areas cut size c.loop-k._k rest c.loop-k-test.true some (all_areas before)) ∙ c.loop-k.invariant.all;
+    let others : List ℕ → List Areas = λ (left : List ℕ). map (first_areas cut) (rests_to cut (size - (c.loop-k._k + 1)) left) in record {
+      all = cc (
+        map-append areas_of before (c.first_record.result ∷ []),
+        next_areas cut size c.loop-k._k rest c.loop-k-test.true some (all_areas before),
+      );
       bytes = c.loop-k.invariant.bytes;
     }
 

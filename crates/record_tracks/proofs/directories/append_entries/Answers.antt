@@ -3,8 +3,7 @@ use Rattle.std.specs.List.{concat}
 use Rattle.std.proofs.lemmas.List.{get_or-drop}
 use Rattle.record_tracks.specs.Entries.{all_contents, all_entries}
 use Rattle.record_tracks.specs.Filled.{PutBehind}
-use Rattle.record_tracks.proofs.Pieces.{length-entries}
-use Rattle.record_tracks.proofs.Going.{concat_more, concat_fewer}
+use Rattle.record_tracks.proofs.Going.{length-entries, concat_more, concat_fewer}
 use Rattle.record_tracks.proofs.Filled.{two_puts}
 use Rattle.record_tracks.proofs.directories.append_entries.Goals as goal
 use Rattle.record_tracks.proofs.directories.append_entries.Goals.{After-bytes_at}
@@ -21,11 +20,8 @@ next_bytes c =
       arith,
       length-drop c.args.from all,
       length-entries c.args.entries.now,
-      c.requires.number,
-      c.loop-k-test.true,
     ) in
-    concat_more left k there
-    ∙ ap (λ (xs : List ℕ). concat (take k left) ++ xs) (get_or-drop c.args.from all k [] ∙ sym c.bytes_at.ensures.bytes)
+    cc (concat_more left k there, get_or-drop c.args.from all k [])
 
 next_size : (c : After-bytes_at)
     → length (concat (take (c.loop-k.k + 1) (drop c.args.from (all_entries (all_contents c.args.entries.now)))))
@@ -33,29 +29,25 @@ next_size : (c : After-bytes_at)
     + (12 + length c.bytes_at.result.user_data.now)
 next_size c =
     let all = all_entries (all_contents c.args.entries.now) in
-    let left = drop c.args.from all in
-    omega (
+    let left = drop c.args.from all in omega (
       arith,
       ap length (next_bytes c),
       length-append (concat (take c.loop-k.k left)) (c.bytes_at.result.front ++ c.bytes_at.result.user_data.now),
       ap length c.bytes_at.ensures.bytes,
-      c.bytes_at.ensures.size,
     )
 
 pub append_entry-at-requires : goal.append_entry-at-requires
 append_entry-at-requires c =
     let before = (goal.at.append_entry-at-requires c).After-bytes_at in
     let left = drop c.args.from (all_entries (all_contents c.args.entries.now)) in
-    let fewer = concat_fewer (c.loop-k.k + 1) c.args.count left (omega (arith, c.loop-k-test.true)) in
-    omega (arith, next_size before, fewer, c.requires.room, c.loop-k.invariant.place, c.loop-k.invariant.size)
+    let fewer = concat_fewer (c.loop-k.k + 1) c.args.count left (omega arith) in omega (arith, next_size before)
 
 pub loop-k-preserved : goal.loop-k-preserved
 loop-k-preserved c =
     let before = (goal.at.loop-k-preserved c).After-bytes_at in
-    let left = drop c.args.from (all_entries (all_contents c.args.entries.now)) in
-    record {
+    let left = drop c.args.from (all_entries (all_contents c.args.entries.now)) in record {
       size = c.append_entry-at.ensures.same ∙ c.loop-k.invariant.size;
-      place = omega (arith, c.append_entry-at.ensures.next, next_size before, c.loop-k.invariant.place);
+      place = omega (arith, next_size before);
       written = subst (λ (xs : List ℕ). PutBehind 10 xs c.args.block.now c.append_entry-at.new.block) (sym (next_bytes before))
           (two_puts 10 c.loop-k.at (concat (take c.loop-k.k left)) (c.bytes_at.result.front ++ c.bytes_at.result.user_data.now)
           c.args.block.now c.loop-k.block c.append_entry-at.new.block

@@ -1,9 +1,7 @@
-use Rattle.std.proofs.Common.{◌≡◌, ◌∙◌, ap, sym, ℕ, ◌+◌, ◌-◌, ◌<◌, [], length, get_or, drop, arith, length-drop}
+use Rattle.std.proofs.Common.{◌≡◌, ◌∙◌, ap, sym, ◌+◌, ◌-◌, ◌<◌, [], length, get_or, drop, arith, length-drop}
 use Rattle.std.proofs.lemmas.List.{get_or-drop}
 use Rattle.record_tracks.specs.Entries.{all_contents, all_entries}
-use Rattle.record_tracks.specs.Directory.{going_in}
-use Rattle.record_tracks.proofs.Pieces.{length-entries}
-use Rattle.record_tracks.proofs.Going.{stops, goes_on, ends, more_used}
+use Rattle.record_tracks.proofs.Going.{length-entries, stops, goes_on, ends, more_used}
 use Rattle.record_tracks.proofs.directories.going_in.Goals as goal
 use Rattle.record_tracks.proofs.directories.going_in.Goals.{After-bytes_at}
 
@@ -16,15 +14,14 @@ next_length c =
 
 next_there : (c : After-bytes_at) → c.loop-count.count < length (drop c.args.from (all_entries (all_contents c.args.entries.now)))
 next_there c =
-    let all = all_entries (all_contents c.args.entries.now) in
-    omega (arith, length-drop c.args.from all, length-entries c.args.entries.now, c.loop-count-test.true)
+    let all = all_entries (all_contents c.args.entries.now) in omega (arith, length-drop c.args.from all, length-entries c.args.entries.now)
 
 pub returns-then-more-gt256-clause-count : goal.returns-then-more-gt256-clause-count
 returns-then-more-gt256-clause-count c =
     let before = (goal.at.returns-then-more-gt256-clause-count c).After-bytes_at in
     let left = drop c.args.from (all_entries (all_contents c.args.entries.now)) in
     stops left c.loop-count.count c.loop-count.used c.loop-count.invariant.fit (next_there before)
-    (omega (arith, next_length before, c.if-more-gt256.true))
+    (omega (arith, next_length before))
 
 pub loop-count-preserved : goal.loop-count-preserved
 loop-count-preserved c =
@@ -34,12 +31,10 @@ loop-count-preserved c =
     let used = c.loop-count.used in
     let there = next_there before in
     let size = next_length before in
-    let more : used + length (get_or left k []) ≡ used + 12 + length c.bytes_at.result.user_data.now = omega (arith, size) in
-    record {
+    let more : used + length (get_or left k []) ≡ used + 12 + length c.bytes_at.result.user_data.now = omega arith in record {
       few = c.if-more-gt256.false;
-      used = omega (arith, more, c.loop-count.invariant.used, more_used left k there);
-      fit = goes_on left k used c.loop-count.invariant.fit there (omega (arith, more, c.if-more-gt256.false))
-          ∙ ap (λ (n : ℕ). k + 1 + going_in n (drop (k + 1) left)) more;
+      used = omega (arith, more_used left k there);
+      fit = cc (goes_on left k used c.loop-count.invariant.fit there (omega arith));
     }
 
 pub returns-clause-count : goal.returns-clause-count
@@ -48,4 +43,4 @@ returns-clause-count c =
     let left = drop c.args.from all in
     let n = length-drop c.args.from all in
     let is : c.loop-count.count ≡ length c.args.entries.now + 1 - c.args.from = omega arith in
-    sym is ∙ ends left c.loop-count.count c.loop-count.used c.loop-count.invariant.fit (omega (arith, n, length-entries c.args.entries.now))
+    sym is ∙ ends left c.loop-count.count c.loop-count.used c.loop-count.invariant.fit (omega (arith, length-entries c.args.entries.now))

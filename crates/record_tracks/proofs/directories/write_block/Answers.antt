@@ -1,5 +1,4 @@
-use Rattle.std.proofs.Common.{◌≡◌, ◌∙◌, ap, sym, ℕ, List, ◌+◌, ◌-◌, ◌/◌, ◌%◌}
-use Rattle.std.proofs.Common.{◌<◌, ◌≤◌, ◌++◌, [], ◌∷◌, length, get_or, drop, take, replicate, arith}
+use Rattle.std.proofs.Common.{◌≡◌, ◌∙◌, ap, sym, ℕ, ◌+◌, ◌-◌, ◌/◌, ◌%◌, ◌<◌, ◌≤◌, ◌++◌, [], ◌∷◌, length, drop, take, replicate, arith}
 use Rattle.std.proofs.Common.{length-append, append_assoc, ⊎_elim}
 use Rattle.std.specs.List.{concat}
 use Rattle.std.proofs.lemmas.Bool.{cases_lt}
@@ -8,10 +7,8 @@ use Rattle.std.proofs.lemmas.List.Elements.{All-drop}
 use Rattle.record_tracks.specs.Entries.{all_contents, all_entries}
 use Rattle.record_tracks.specs.Directory.{key_of, block_front, block_of}
 use Rattle.record_tracks.specs.Filled.{filled}
-use Rattle.record_tracks.proofs.Pieces.{IsShort, entries_short}
-use Rattle.record_tracks.proofs.Going.{goes_in}
-use Rattle.record_tracks.proofs.BehindEntries.{some_fit}
-use Rattle.record_tracks.proofs.BlockData.{block_made, length-key}
+use Rattle.record_tracks.proofs.Going.{IsShort, entries_short, goes_in, some_fit}
+use Rattle.record_tracks.proofs.DirectoryReading.{block_made, length-key}
 use Rattle.record_tracks.proofs.Filled.{put_behind}
 use Rattle.record_tracks.proofs.directories.write_block.Goals as goal
 
@@ -23,8 +20,6 @@ returns-then-count-eq0-clause-block c =
     (λ (there : from < length all). absurd (omega (
       arith,
       some_fit all from (entries_short (all_contents c.args.entries.now) c.requires.each) there,
-      c.going_in-count.ensures.count,
-      c.if-count-eq0.true,
     )))
     (λ (past : length all ≤ from). past) (cases_lt from (length all)) in
     c.clear.ensures ∙ ap (λ (n : ℕ). replicate n 0) c.requires.room ∙ ap block_of (sym (drop_all from all past))
@@ -40,18 +35,12 @@ returns-clause-block c =
     let ps = take g left in
     let key = c.key_at.result in
     let within = (goes_in 2 left).within in
-    let size : length ps ≡ g = length-take-le g left (omega (arith, within, count)) in
-    let far : from + (g - 1) ≡ from + g - 1 = omega (arith, c.if-count-eq0.false) in
-    let key_is : key ≡ key_of ps = c.key_at.ensures
-    ∙ ap (λ (j : ℕ). take 8 (get_or all j [])) (sym far)
-    ∙ ap (take 8) (sym (get_or-drop from all (g - 1) []) ∙ sym (get_or-take g left (g - 1) [] (omega (arith, c.if-count-eq0.false))))
-    ∙ ap (λ (j : ℕ). take 8 (get_or ps (j - 1) [])) (sym size) in
+    let size : length ps ≡ g = length-take-le g left (omega arith) in
+    let far : from + (g - 1) ≡ from + g - 1 = omega arith in
+    let key_is : key ≡ key_of ps = cc (get_or-drop from all (g - 1) [], get_or-take g left (g - 1) [] (omega arith)) in
     let head = key ++ (used / 256 ∷ used % 256 ∷ []) in
-    let front_is : head ++ concat ps ≡ block_front ps =
-    append_assoc key (used / 256 ∷ used % 256 ∷ []) (concat ps)
-    ∙ ap (λ (k : List ℕ). k ++ (used / 256 ∷ used % 256 ∷ concat ps)) key_is
-    ∙ ap (λ (n : ℕ). key_of ps ++ (n / 256 ∷ n % 256 ∷ concat ps)) c.going_in-count.ensures.used in
-    let some : 1 ≤ length left = omega (arith, within, count, c.if-count-eq0.false) in
+    let front_is : head ++ concat ps ≡ block_front ps = cc (append_assoc key (used / 256 ∷ used % 256 ∷ []) (concat ps)) in
+    let some : 1 ≤ length left = omega arith in
     let short = entries_short (all_contents c.args.entries.now) c.requires.each in
     let short_left = All-drop IsShort from all short in
     let ten : length head ≡ 10 = omega (
@@ -61,8 +50,8 @@ returns-clause-block c =
       ap (λ (n : ℕ). length (key_of (take n left))) count,
       length-key left short_left some,
     ) in
-    put_behind 264 c.begin.new.block c.append_entries.new.block head (concat ps) 10 c.append_entries.ensures.written
-    (c.begin.ensures.same ∙ c.requires.room) ten (c.begin.ensures.written ∙ ap (λ (n : ℕ). filled n head) c.requires.room)
-    ∙ ap (filled 264) front_is
-    ∙ ap (λ (n : ℕ). filled 264 (block_front (take n left))) count
-    ∙ sym (block_made left some)
+    cc (
+      put_behind 264 c.begin.new.block c.append_entries.new.block head (concat ps) 10 c.append_entries.ensures.written
+          (c.begin.ensures.same ∙ c.requires.room) ten (c.begin.ensures.written ∙ ap (λ (n : ℕ). filled n head) c.requires.room),
+      block_made left some,
+    )

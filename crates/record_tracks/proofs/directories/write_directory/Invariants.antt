@@ -8,7 +8,6 @@ use Rattle.record_tracks.proofs.directories.write_directory.Given as goal
 abbrev pub invariant-loop-k : goal.invariant-loop-k
 invariant-loop-k l = record {
   within : l.from ≤ length l.entries + 1;
-  blocks : concat (blocks_of (all_entries (all_contents l.entries)) (length l.fn.directory / 264))
-      ≡ take (l.k * 264) l.directory
+  blocks : concat (blocks_of (all_entries (all_contents l.entries)) (length l.fn.directory / 264)) ≡ take (l.k * 264) l.directory
       ++ concat (blocks_of (drop l.from (all_entries (all_contents l.entries))) (length l.fn.directory / 264 - l.k));
 }

@@ -1,13 +1,45 @@
-use Rattle.std.proofs.Common.{◌≤◌, ◌∙◌, ap, sym, subst, length, arith, All}
-use Rattle.std.proofs.lemmas.List.{drop_all, take_all, length-map}
-use Rattle.record_tracks.specs.Entries.{contents_of, all_contents, IsEntry}
-use Rattle.record_tracks.specs.DirectoryFaults.{refused_from}
-use Rattle.record_tracks.proofs.Refused.{none_refused, next_refused, more_are}
+use Rattle.std.proofs.Common.{◌≡◌, ◌∙◌, ap, sym, refl, subst, ℕ, ◌+◌, ◌<◌, List, [], ◌∷◌, length, drop, take, get_or, arith, All, Option}
+use Rattle.std.proofs.Common.{Some, None, ◌≤◌}
+use Rattle.std.proofs.lemmas.List.{drop_more, get_or-map, length-map, drop_all, take_all}
+use Rattle.std.proofs.lemmas.List.Elements.{All-more}
+use Rattle.record_tracks.specs.declared.entries.NewEntry.{NewEntry}
+use Rattle.record_tracks.specs.declared.directory_faults.EntryFault.{EntryFault}
+use Rattle.record_tracks.specs.Entries.{EntryContents, contents_of, all_contents, IsEntry}
+use Rattle.record_tracks.specs.DirectoryFaults.{entry_fault, refused_or, refused_from}
 use Rattle.record_tracks.proofs.directory_faults.refused_entry.Goals as goal
 
+none_refused : (number : ℕ) (before : Option (List ℕ)) → refused_from number before [] ≡ None
+unfolding refused_from
+none_refused number before = refl
+
+one_refused : (number : ℕ) (before : Option (List ℕ)) (e : EntryContents) (others : List EntryContents)
+    → refused_from number before (e ∷ others) ≡ refused_or number (entry_fault before e) (refused_from (number + 1) (Some e.name) others)
+unfolding refused_from
+one_refused number before e others = refl
+
+-- a loop over the entries that has passed so many
+module _ (entries : List NewEntry) (number : ℕ) (d : NewEntry) (there : number < length entries) where
+  abbrev e : EntryContents
+  e = contents_of (get_or entries number d)
+
+  here : number < length (all_contents entries)
+  here = omega (arith, length-map entries contents_of)
+
+  is : get_or (all_contents entries) number (contents_of d) ≡ e
+  is = get_or-map contents_of entries number d (contents_of d) there
+
+  next_refused : (before : Option (List ℕ)) (f : Option EntryFault) → f ≡ entry_fault before e
+      → refused_from number before (drop number (all_contents entries))
+      ≡ refused_or number f (refused_from (number + 1) (Some e.name) (drop (number + 1) (all_contents entries)))
+  next_refused before f fault =
+      let rest = drop (number + 1) (all_contents entries) in
+      cc (drop_more (all_contents entries) number (contents_of d) here, is, one_refused number before e rest)
+
+  more_are : All IsEntry (take number (all_contents entries)) → IsEntry e → All IsEntry (take (number + 1) (all_contents entries))
+  more_are so_far fits = All-more IsEntry (all_contents entries) number (contents_of d) here so_far (subst IsEntry (sym is) fits)
+
 pub returns-in-Some-clause-fault : goal.returns-in-Some-clause-fault
-returns-in-Some-clause-fault c =
-    sym (c.loop-number.invariant.refused
+returns-in-Some-clause-fault c = sym (c.loop-number.invariant.refused
     ∙ next_refused c.args.entries.now c.loop-number.number _ c.loop-number-test.true c.loop-number.before _
     (sym c.in-Some.is ∙ c.entry_fault.ensures.fault))
 
@@ -16,15 +48,13 @@ loop-number-preserved c = record {
   refused = c.loop-number.invariant.refused
       ∙ next_refused c.args.entries.now c.loop-number.number _ c.loop-number-test.true c.loop-number.before _
       (sym c.in_default.is ∙ c.entry_fault.ensures.fault);
-  each = more_are c.args.entries.now c.loop-number.number _ c.loop-number-test.true c.loop-number.invariant.each
-      c.in_default.ensures.fits;
+  each = more_are c.args.entries.now c.loop-number.number _ c.loop-number-test.true c.loop-number.invariant.each c.in_default.ensures.fits;
 }
 
 pub returns : goal.returns
 returns c =
     let entries = all_contents c.args.entries.now in
-    let past : length entries ≤ c.loop-number.number =
-    omega (arith, c.loop-number-test.false, length-map c.args.entries.now contents_of) in
+    let past : length entries ≤ c.loop-number.number = omega (arith, length-map c.args.entries.now contents_of) in
     let none = c.loop-number.invariant.refused
     ∙ ap (refused_from c.loop-number.number c.loop-number.before) (drop_all c.loop-number.number entries past)
     ∙ none_refused c.loop-number.number c.loop-number.before in

@@ -3,13 +3,12 @@ use Rattle.record_tracks.specs.Entries.{EntryContents, all_contents, all_entries
 use Rattle.record_tracks.specs.Directory.{left_behind}
 use Rattle.record_tracks.specs.DirectoryFaults.{AreEntries}
 use Rattle.record_tracks.specs.MemberEntries.{directory_entries}
-use Rattle.record_tracks.proofs.Counts.{are_records}
+use Rattle.record_tracks.proofs.Members.{are_records}
 use Rattle.record_tracks.proofs.OwnRead.{own_read}
 use Rattle.record_tracks.proofs.library_directories.library_directory.Goals as goal
 
 pub length_fault-requires : goal.length_fault-requires
-length_fault-requires c =
-    are_records _ c.in_ok-records.records.items c.deref.result.now c.in_ok-zeros.zeros.items c.deref-2.ensures.value
+length_fault-requires c = are_records _ c.in_ok-records.records.items c.deref.result.now c.in_ok-zeros.zeros.items c.deref-2.ensures.value
     c.in_ok-records.ensures.records c.deref.ensures.value c.in_ok-zeros.ensures (c.in_ok-records.ensures.fit c.args.model c.requires)
 
 pub user_data-requires-clause-placed : goal.user_data-requires-clause-placed

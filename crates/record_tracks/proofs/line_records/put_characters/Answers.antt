@@ -33,4 +33,4 @@ returns c =
     let t = YieldsList-end (YieldsList-from_chars c.args.text.now c.utf8.text cc) c.loop-character.yielded _ c.loop-character.yielded_by _ _
     c.in-None.is c.next.ensures.steps in
     all_spelled (chars c.args.text.now) c.args.records.now.items c.loop-character.records.items (length c.loop-character.yielded)
-    (omega (arith, t.1)) c.loop-character.invariant
+    (omega arith) c.loop-character.invariant

@@ -1,4 +1,4 @@
-use Rattle.std.proofs.Common.{◌∙◌, ◌++◌, arith, replicate, take, ap, subst, ◌+◌, ◌-◌}
+use Rattle.std.proofs.Common.{arith, subst, ◌+◌}
 use Rattle.std.specs.Str.{chars}
 use Rattle.record_tracks.specs.Codes.{codes_of}
 use Rattle.record_tracks.specs.Putting.{PutsCodes}
@@ -44,6 +44,4 @@ returns c =
       c.put_characters.new.records.ok.0,
     ))
     (omega (arith, c.from-size.ensures, c.len-start.ensures, c.args.records.now.ok.0))
-    (c.in_ok-resize.ensures.items
-    ∙ ap (λ n. take (c.len-start.result + c.from-size.result) c.put_characters.new.records.items
-    ++ replicate (c.len-start.result + c.from-size.result - n) 0x40) c.put_characters.new.records.ok.0)
+    (cc (c.in_ok-resize.ensures.items, c.put_characters.new.records.ok.0))

@@ -15,14 +15,14 @@ loop-rest-init c = (
 
 empty : (l : List ℕ) → length l ≡ 0 → l ≡ []
 empty [] e = refl
-empty (x ∷ l) e = absurd (omega (arith, e))
+empty (x ∷ l) e = absurd (omega arith)
 
 is_zero : (n : ℕ) → true ≡ (n == 0) → n ≡ 0
 is_zero n e = eqb-true n 0 (sym e)
 
 pub loop-rest-preserved : goal.loop-rest-preserved
 loop-rest-preserved c = (
-  omega (arith, c.loop-rest.invariant.0, c.split_line.ensures.shorter),
+  omega arith,
   one_joined c.args.size c.args.text.now c.loop-rest.number c.loop-rest.rest.now c.split_line.result.0.now c.split_line.result.1.now
       c.loop-rest.records.items c.loop-rest.invariant.1 c.split_line.ensures.lines c.put_record.new.records.items
       (subst (PutsRecord (record_of c.args.size c.split_line.result.0.now) c.loop-rest.records.items c.put_record.new.records.items)
@@ -37,8 +37,7 @@ returns-in-Ok-Some-clause-fault c =
     c.in-Ok-Some.field-0-is c.in-Ok-Some.ensures)
 
 pub returns-clause-records : goal.returns-clause-records
-returns-clause-records c =
-    all_joined c.args.size c.args.text.now c.loop-rest.number c.loop-rest.rest.now c.loop-rest.records.items
+returns-clause-records c = all_joined c.args.size c.args.text.now c.loop-rest.number c.loop-rest.rest.now c.loop-rest.records.items
     (empty c.loop-rest.rest.now (is_zero (length c.loop-rest.rest.now) c.loop-rest-test.ensures)) c.loop-rest.invariant.1
 
 pub returns-clause-read : goal.returns-clause-read

@@ -3,16 +3,14 @@ use Rattle.record_tracks.specs.declared.records.NewRecord.{NewRecord}
 use Rattle.record_tracks.specs.Records.{Areas, all_areas, end_of_file}
 use Rattle.record_tracks.specs.Library.{directory_areas, members_areas, library_areas}
 use Rattle.record_tracks.proofs.Listed.{blocks_go}
-use Rattle.record_tracks.proofs.Members.{library_goes}
-use Rattle.record_tracks.proofs.LibraryRead.{directory_read, members_read}
+use Rattle.record_tracks.proofs.Members.{library_goes, directory_read, members_read}
 use Rattle.record_tracks.proofs.member_records.library_records.Goals as goal
 
 pub returns-clause-fit : goal.returns-clause-fit
 returns-clause-fit c model goes =
     let directory = c.args.directory.now in
     let members = c.args.members.now in
-    let are : all_areas c.push_members.new.records.items ≡ library_areas directory members =
-    c.in_ok-push_members.ensures
+    let are : all_areas c.push_members.new.records.items ≡ library_areas directory members = c.in_ok-push_members.ensures
     ∙ ap (λ (xs : List Areas). xs ++ members_areas members) (c.in_ok-push.ensures
     ∙ ap (λ (xs : List Areas). xs ++ end_of_file ∷ []) (c.in_ok-push_directory.ensures
     ∙ ap (λ (items : List NewRecord). all_areas items ++ directory_areas directory) c.new-records.ensures.items)) in

@@ -13,6 +13,6 @@ returns-clause-written c =
     c.append-at.ensures.written c.append-at-2.ensures.written c.append-at.ensures.next c.append-at.ensures.same in
     let both = two_puts c.args.at c.append-at-2.result (count ++ key) bytes s0 c.append-at-2.new.room c.append.new.room
     first c.append.ensures.written
-    (omega (arith, c.append-at-2.ensures.next, c.append-at.ensures.next, length-append count key))
+    (omega (arith, length-append count key))
     (c.append-at-2.ensures.same ∙ c.append-at.ensures.same) in
     subst (λ (xs : List ℕ). PutBehind c.args.at ((xs ++ key) ++ bytes) s0 c.append.new.room) c.count_bytes.ensures both

@@ -9,14 +9,12 @@ use Rattle.record_tracks.specs.Filled.{filled, PutBehind}
 use Rattle.record_tracks.proofs.Listed.{length-all, length-left, all_go}
 use Rattle.record_tracks.proofs.Fitting.{fits_on, sizes, few_bytes}
 use Rattle.record_tracks.proofs.Filled.{put_behind}
-use Rattle.record_tracks.proofs.Fronts.{one_more_record, length-front, length-record_with, no_areas, room_for_one, room_for_all}
+use Rattle.record_tracks.proofs.Spelled.{one_more_record, length-front, length-record_with, no_areas, room_for_one, room_for_all}
 use Rattle.record_tracks.proofs.slots.spell_records.Goals as goal
 use Rattle.record_tracks.proofs.slots.spell_records.Goals.{After-record_at}
 
 pub overflow_cast-k : goal.overflow_cast-k
-overflow_cast-k c =
-    let most = (fits_on c.args.geometry.model 0 (drop c.args.part.0 (all_areas c.args.blocks.now))).few in
-    omega (arith, most, c.requires.part)
+overflow_cast-k c = let most = (fits_on c.args.geometry.model 0 (drop c.args.part.0 (all_areas c.args.blocks.now))).few in omega arith
 
 -- the record that comes next
 next_is : (c : After-record_at) → get_or (drop c.args.part.0 (all_areas c.args.blocks.now)) c.loop-k.k end_of_file
@@ -27,15 +25,13 @@ next_there : (c : After-record_at) → c.loop-k.k < length (drop c.args.part.0 (
 next_there c = omega (
   arith,
   length-left c.args.blocks.now c.args.part.0,
-  c.loop-k-test.true,
-  c.requires.number,
 )
 
 next_goes : (c : After-record_at) → GoesOn c.args.geometry.model (areas_of c.record_at.result)
 next_goes c =
     let all = all_areas c.args.blocks.now in
     let number = c.args.part.0 + c.loop-k.k in
-    let there : number < length all = omega (arith, length-all c.args.blocks.now, c.loop-k-test.true, c.requires.number) in
+    let there : number < length all = omega (arith, length-all c.args.blocks.now) in
     subst (GoesOn c.args.geometry.model) (sym c.record_at.ensures)
     (All-get_or (GoesOn c.args.geometry.model) all number end_of_file there
     (all_go c.args.geometry.model c.args.blocks.now c.requires.each))
@@ -46,12 +42,8 @@ append_record-at-requires c =
     let left = drop c.args.part.0 (all_areas c.args.blocks.now) in
     let goes = next_goes before in
     let room = room_for_one c.args.geometry c.args.track left c.loop-k.k (areas_of c.record_at.result)
-    (omega (arith, c.requires.part, c.loop-k-test.true)) (next_is before) in
-    record {
-      key = omega (arith, goes.key);
-      bytes = few_bytes c.args.geometry.model (areas_of c.record_at.result) goes;
-      room = omega (arith, room, c.loop-k.invariant.place, c.loop-k.invariant.size, c.requires.room, c.requires.geometry.room);
-    }
+    (omega arith) (next_is before) in
+    record { key = omega arith; bytes = few_bytes c.args.geometry.model (areas_of c.record_at.result) goes; room = omega arith }
 
 pub loop-k-init : goal.loop-k-init
 loop-k-init c =
@@ -75,13 +67,11 @@ loop-k-preserved c =
     let one = one_more_record g c.args.track k left a (next_there before) (next_is before) in
     let put = subst (λ (t : List ℕ). PutBehind c.loop-k.at (record_bytes (record_with t (k + 1) a)) c.loop-k.slot
     c.append_record-at.new.slot) c.track_bytes-id.ensures c.append_record-at.ensures.written in
-    let size = length-record_with (track_bytes g c.args.track) (k + 1) a refl in
-    record {
+    let size = length-record_with (track_bytes g c.args.track) (k + 1) a refl in record {
       size = c.append_record-at.ensures.same ∙ c.loop-k.invariant.size;
-      place = omega (arith, c.append_record-at.ensures.next, c.loop-k.invariant.place, ap length one, length-append front bytes, size);
-      written = put_behind (length c.args.slot.now) _ _ front bytes c.loop-k.at put c.loop-k.invariant.size (sym c.loop-k.invariant.place)
-          c.loop-k.invariant.written
-          ∙ ap (filled (length c.args.slot.now)) (sym one);
+      place = omega (arith, ap length one, length-append front bytes);
+      written = cc (put_behind (length c.args.slot.now) _ _ front bytes c.loop-k.at put c.loop-k.invariant.size
+          (sym c.loop-k.invariant.place) c.loop-k.invariant.written);
     }
 
 pub returns : goal.returns
@@ -89,20 +79,15 @@ returns c =
     let g = c.args.geometry in
     let left = drop c.args.part.0 (all_areas c.args.blocks.now) in
     let k : c.loop-k.k ≡ c.args.part.1 - c.args.part.0 = omega arith in
-    let all : c.loop-k.k ≡ fitting_on g.model left = omega (arith, k, c.requires.part) in
-    let place = c.loop-k.invariant.place ∙ ap (λ (n : ℕ). length (records_front g c.args.track (take n left))) k in
-    record {
+    let all : c.loop-k.k ≡ fitting_on g.model left = omega arith in
+    let place = c.loop-k.invariant.place ∙ ap (λ (n : ℕ). length (records_front g c.args.track (take n left))) k in record {
       next = place;
       room = omega (
         arith,
-        c.loop-k.invariant.place,
         length-front g c.args.track (take c.loop-k.k left),
         ap (λ (n : ℕ). sizes (take n left)) all,
         room_for_all g c.args.track left,
-        c.requires.room,
-        c.requires.geometry.room,
       );
       same = c.loop-k.invariant.size;
-      written = c.loop-k.invariant.written
-          ∙ ap (λ (n : ℕ). filled (length c.args.slot.now) (records_front g c.args.track (take n left))) k;
+      written = cc;
     }

@@ -24,8 +24,7 @@ loop-k-preserved c =
     let is = sym (area_at c.args.blocks.now c.args.from k _ (omega (arith, c.loop-k-test.true))) in
     let last = c.last_charge_for.ensures ∙ ap (last_charge_for m) is in
     let taken = c.charge_for-taken.ensures ∙ ap (charge_for m) is in
-    let cost = charges m (get_or left k end_of_file) in
-    record {
+    let cost = charges m (get_or left k end_of_file) in record {
       taken = omega (arith, taken, last, cost.most, cost.capacity, c.capacity.ensures, c.if-taken-last_charge_for.false);
       fit = goes_on m left k c.loop-k.taken end_of_file c.loop-k.invariant.fit
           (omega (arith, length-left c.args.blocks.now c.args.from, c.loop-k-test.true))

@@ -2,8 +2,7 @@ use Rattle.std.proofs.Common.{◌∙◌, ◌<◌, ◌+◌, ap, sym, ℕ, drop, l
 use Rattle.record_tracks.specs.Records.{all_areas}
 use Rattle.record_tracks.specs.Tracks.{fitting_on}
 use Rattle.record_tracks.proofs.Listed.{length-all, all_go}
-use Rattle.record_tracks.proofs.Fitting.{fits_on}
-use Rattle.record_tracks.proofs.Behind.{none_behind, some_fit, one_more}
+use Rattle.record_tracks.proofs.Fitting.{fits_on, none_behind, some_fit, one_more}
 use Rattle.record_tracks.proofs.tracks.place_of.Goals as goal
 
 pub loop-behind-init : goal.loop-behind-init
@@ -12,44 +11,39 @@ loop-behind-init c = record {
   passed = omega arith;
   left = sym (none_behind c.args.model (all_areas c.args.blocks.now));
   behind = c.fitting-behind.ensures.count ∙ sym (zero-add (fitting_on c.args.model (all_areas c.args.blocks.now)));
-  within = omega (arith, c.fitting-behind.ensures.within);
+  within = omega arith;
 }
 
 pub loop-behind-smaller : goal.loop-behind-smaller
 loop-behind-smaller c =
     let all = all_areas c.args.blocks.now in
     let next = c.loop-behind.next in
-    let there : next < length all = omega (arith, length-all c.args.blocks.now, c.loop-behind.invariant.passed, c.requires.number) in
-    let some = some_fit c.args.model all next (all_go c.args.model c.args.blocks.now c.requires.each) there in
-    omega (arith, some, c.loop-behind.invariant.behind, c.loop-behind.invariant.within)
+    let there : next < length all = omega (arith, length-all c.args.blocks.now) in
+    let some = some_fit c.args.model all next (all_go c.args.model c.args.blocks.now c.requires.each) there in omega arith
 
 pub loop-behind-preserved : goal.loop-behind-preserved
 loop-behind-preserved c =
     let m = c.args.model in
     let all = all_areas c.args.blocks.now in
     let next = c.loop-behind.next in
-    let there : next < length all = omega (arith, length-all c.args.blocks.now, c.loop-behind.invariant.passed, c.requires.number) in
-    let some = some_fit m all next (all_go m c.args.blocks.now c.requires.each) there in
-    record {
-      few = omega (arith, some, c.loop-behind.invariant.behind, c.loop-behind.invariant.few);
+    let there : next < length all = omega (arith, length-all c.args.blocks.now) in
+    let some = some_fit m all next (all_go m c.args.blocks.now c.requires.each) there in record {
+      few = omega arith;
       passed = c.loop-behind-test.true;
-      left = ap (λ (n : ℕ). drop n all) c.loop-behind.invariant.behind
-          ∙ one_more m all next c.loop-behind.track c.loop-behind.invariant.left;
+      left = cc (one_more m all next c.loop-behind.track c.loop-behind.invariant.left);
       behind = ap (λ (n : ℕ). c.loop-behind.behind + n) c.fitting-behind-in-loop-behind.ensures.count;
       within = c.fitting-behind-in-loop-behind.ensures.within;
     }
 
 pub overflow_cast-result : goal.overflow_cast-result
-overflow_cast-result c =
-    let few = (fits_on c.args.model 0 (drop c.loop-behind.next (all_areas c.args.blocks.now))).few in
-    omega (arith, few, c.loop-behind.invariant.behind, c.loop-behind-test.false)
+overflow_cast-result c = let few = (fits_on c.args.model 0 (drop c.loop-behind.next (all_areas c.args.blocks.now))).few in omega arith
 
 pub returns : goal.returns
 returns c = record {
   before = c.loop-behind.next;
   left = sym c.loop-behind.invariant.left;
-  place = omega (arith, c.loop-behind.invariant.passed);
-  first = omega (arith, c.loop-behind.invariant.passed);
+  place = omega arith;
+  first = omega arith;
   there = (let fit = ap (fitting_on c.args.model) c.loop-behind.invariant.left in
-      omega (arith, fit, c.loop-behind.invariant.behind, c.loop-behind-test.false));
+      omega arith);
 }
