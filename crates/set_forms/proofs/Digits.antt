@@ -26,14 +26,12 @@ own = numerals_by_fold _ (search rules) digits_behind (search rules)
 
 -- at most ten digits
 of_digits : (most n : ℕ) (word : List ℕ) → all_ascii_digits word ≡ true → 0 < length word → length word ≤ 10
-    → digits_behind 0 word ≡ n → n ≤ most
-    → number_of most word ≡ Some n
+    → digits_behind 0 word ≡ n → n ≤ most → number_of most word ≡ Some n
 unfolding number_of
 of_digits most n word all some few value within =
-    let is_some : nat_eq (length word) 0 ≡ false = ne_eqb (length word) 0 (λ e. omega (arith, some, e)) in
+    let is_some : nat_eq (length word) 0 ≡ false = ne_eqb (length word) 0 (λ e. omega arith) in
     let is_few : nat_lt 10 (length word) ≡ false = le-ltb 10 (length word) few in
-    let inside : nat_lt most n ≡ false = le-ltb most n within in
-    rw (is_some, is_few, all, value, inside) refl
+    let inside : nat_lt most n ≡ false = le-ltb most n within in rw (is_some, is_few, all, value, inside) refl
 
 -- a number
 pub number_back : (most n : ℕ) → n ≤ most → n < 4294967296 → number_of most (decimal n) ≡ Some n
@@ -48,8 +46,7 @@ digit_inner c is = grind (arith, nat_tests)
 digits_inner : (word : List ℕ) → all_ascii_digits word ≡ true → list_all is_inner word ≡ true
 digits_inner [] all = refl
 digits_inner (c ∷ word) all =
-    let both = and_parts (is_ascii_digit c) (all_ascii_digits word) all in
-    rw (digit_inner c both.0, digits_inner word both.1) refl
+    let both = and_parts (is_ascii_digit c) (all_ascii_digits word) all in rw (digit_inner c both.0, digits_inner word both.1) refl
 
 pub number_digits : (n : ℕ) → n < 4294967296 → all_ascii_digits (decimal n) ≡ true
 number_digits n small = digits_decimal own n (omega arith)
@@ -95,8 +92,7 @@ of_pair (high ∷ low ∷ []) b is =
     let both = and_parts (same (byte_of high low) b) ((is_inner high && is_inner low) && (no_slash high && no_slash low)) is in
     let four = and_parts (is_inner high && is_inner low) (no_slash high && no_slash low) both.1 in
     let inner = and_parts (is_inner high) (is_inner low) four.0 in
-    let plain = and_parts (no_slash high) (no_slash low) four.1 in
-    record {
+    let plain = and_parts (no_slash high) (no_slash low) four.1 in record {
       high = high;
       low = low;
       are = refl;
@@ -152,9 +148,7 @@ no_slash_at (c ∷ word) (suc k) none = no_slash_at word k (and_parts (no_slash 
 -- so they are no note
 pub bytes_are_no_note : (bytes : List ℕ) → All (λ b. b < 256) bytes → is_note (bytes_text bytes) ≡ false
 bytes_are_no_note bytes small =
-    let word = bytes_text bytes in
-    ap (λ b. nat_le 3 (length word) && b) (no_slash_at word (length word - 3) (bytes_no_slash bytes small))
-    ∙ and-false (nat_le 3 (length word))
+    let word = bytes_text bytes in cc (no_slash_at word (length word - 3) (bytes_no_slash bytes small), and-false (nat_le 3 (length word)))
 
 pub length_of_bytes : (bytes : List ℕ) → All (λ b. b < 256) bytes → length (bytes_text bytes) ≡ 2 * length bytes
 length_of_bytes [] small = refl
@@ -166,8 +160,7 @@ length_of_bytes (b ∷ bytes) small =
 
 -- a number with zeros before it
 with_zeros : (n : ℕ) (word : List ℕ) (b c : Bool) → all_ascii_digits word ≡ true → 0 < length word → length word ≤ 5
-    → digits_behind 0 word ≡ n
-    → n ≤ 65535 → number_of 65535 ((if b then 48 ∷ 48 ∷ [] else (if c then 48 ∷ [] else [])) ++ word) ≡ Some n
+    → digits_behind 0 word ≡ n → n ≤ 65535 → number_of 65535 ((if b then 48 ∷ 48 ∷ [] else (if c then 48 ∷ [] else [])) ++ word) ≡ Some n
 with_zeros n word true c all some few value within = of_digits 65535 n (48 ∷ 48 ∷ word) all (omega arith) (omega arith) value within
 with_zeros n word false true all some few value within = of_digits 65535 n (48 ∷ word) all (omega arith) (omega arith) value within
 with_zeros n word false false all some few value within = of_digits 65535 n word all some (omega arith) value within
@@ -185,8 +178,7 @@ years = refl
 year_back : (y : ℕ) → y < 256 → year_of (decimal (1900 + y)) ≡ Some y
 year_back y small =
     let late : nat_lt (1900 + y) 1900 ≡ false = le-ltb (1900 + y) 1900 (omega arith) in
-    let since : 1900 + y - 1900 ≡ y = omega arith in
-    rw (number_back 2155 (1900 + y) (omega arith) (omega arith), late, since) refl
+    let since : 1900 + y - 1900 ≡ y = omega arith in rw (number_back 2155 (1900 + y) (omega arith) (omega arith), late, since) refl
 
 -- a year of four digits, and what stands behind a hyphen
 of_parts : (d : Date) (year rest : List ℕ) → length year ≡ 4 → year_of year ≡ Some d.year → number_of 65535 rest ≡ Some d.day
@@ -207,8 +199,7 @@ unfolding day_of
 no_day d is =
     let both = and_parts (d.year == 0) (d.day == 0) is in
     let year : 0 ≡ d.year = sym (eqb-true d.year 0 both.0) in
-    let day : 0 ≡ d.day = sym (eqb-true d.day 0 both.1) in
-    ap₂ (λ (y n : ℕ). Some (record { year = y; day = n })) year day
+    let day : 0 ≡ d.day = sym (eqb-true d.day 0 both.1) in ap₂ (λ (y n : ℕ). Some (record { year = y; day = n })) year day
 
 pub day_back : (d : Date) → IsDay d → day_of (day_text d) ≡ Some d
 unfolding day_text
@@ -230,7 +221,7 @@ pub inner_both : (first second : List ℕ) → list_all is_inner first ≡ true 
 inner_both first second a b = rw (list_all-append is_inner first second, a, b) refl
 
 pub word_and : (first second : List ℕ) → IsWord first → list_all is_inner second ≡ true → IsWord (first ++ second)
-word_and first second w b = record { some = simp length-append (omega (arith, w.some)); inner = inner_both first second w.inner b }
+word_and first second w b = record { some = simp length-append (omega arith); inner = inner_both first second w.inner b }
 
 zeros_inner : (n : ℕ) → list_all is_inner (zeros n) ≡ true
 zeros_inner n = go (nat_le n 9) (nat_le n 99)
@@ -246,7 +237,6 @@ day_word d is = go ((d.year == 0) && (d.day == 0))
   where
     go : (b : Bool) → IsWord (if b then codes "-" else concat (decimal (1900 + d.year) ∷ codes "-" ∷ zeros d.day ∷ decimal d.day ∷ []))
     go true = record { some = lit< tt; inner = refl }
-    go false =
-        rw (append-nil (decimal d.day)) (word_and (decimal (1900 + d.year)) (45 ∷ (zeros d.day ++ decimal d.day))
+    go false = rw (append-nil (decimal d.day)) (word_and (decimal (1900 + d.year)) (45 ∷ (zeros d.day ++ decimal d.day))
         (number_word (1900 + d.year) (omega (arith, is.year)))
         (inner_both (zeros d.day) (decimal d.day) (zeros_inner d.day) (number_word d.day (omega (arith, is.day))).inner))

@@ -1,8 +1,7 @@
 -- The line of an entry, written and read back.
 use Rattle.std.proofs.Common.{ℕ, ◌+◌, ◌-◌, ◌*◌, ◌%◌, ◌<◌, ◌≤◌, ◌≡◌, ◌==◌, ◌∙◌, List, [], ◌∷◌, ◌++◌, Bool, true, false, ◌&&◌, nat_lt, nat_le}
-use Rattle.std.proofs.Common.{nat_eq}
-use Rattle.std.proofs.Common.{Option, Some, None, option_map, option_and_then, Ok, IfSome, codes, append_assoc, append-nil, length-append}
-use Rattle.std.proofs.Common.{length, take, map, get_or, ap, ap₂, refl, sym, lit<, lit≤, arith, eq-eqb, ne_eqb, subst}
+use Rattle.std.proofs.Common.{nat_eq, Option, Some, None, option_map, option_and_then, Ok, IfSome, codes, append_assoc, append-nil}
+use Rattle.std.proofs.Common.{length-append, length, take, map, get_or, ap, ap₂, refl, sym, lit<, lit≤, arith, eq-eqb, ne_eqb, subst}
 use Rattle.std.specs.List.{All, list_all}
 use Rattle.std.specs.Fmt.{decimal}
 use Rattle.std.specs.Str.{all_ascii_digits}
@@ -21,8 +20,7 @@ use Rattle.set_forms.specs.declared.forms.Note.TheVariants.{Block, Address}
 use Rattle.set_forms.specs.declared.forms.FormLine.TheVariants.{Entry}
 use Rattle.set_forms.specs.Numbers.{byte_of}
 use Rattle.set_forms.specs.Forms.{spaced, note_text, user_words, user_data_text, named_entry_line, form_line}
-use Rattle.set_forms.specs.Parsing.{is_note, note_of, note_at, added, entry_behind, entry_of}
-use Rattle.set_forms.specs.Parsing.{an_entry}
+use Rattle.set_forms.specs.Parsing.{is_note, note_of, note_at, added, entry_behind, entry_of, an_entry}
 use Rattle.set_forms.specs.Laws.{AreBytes, IsNote, IsEntryForm}
 use Rattle.set_forms.proofs.Split.{is_inner, IsWord, AreWords, both_words}
 use Rattle.set_forms.proofs.Digits.{number_back, number_word, number_digits, inner_both, pair_of_byte, bytes_back, bytes_inner}
@@ -48,13 +46,10 @@ module _ (front : List ℕ) (high low b : ℕ) (byte : byte_of high low ≡ Some
   unfolding whole
   at k =
       let left : length front + k - length front ≡ k = omega arith in
-      get_or-append_right front (47 ∷ high ∷ low ∷ []) (length front) (length front + k) 0 refl (omega arith)
-      ∙ ap (λ i. get_or (47 ∷ high ∷ low ∷ []) i 0) left
+      cc (get_or-append_right front (47 ∷ high ∷ low ∷ []) (length front) (length front + k) 0 refl (omega arith))
 
   place : (back k : ℕ) → back + k ≡ 3 → get_or whole (length whole - back) 0 ≡ get_or (47 ∷ high ∷ low ∷ []) k 0
-  place back k is =
-      let left : length whole - back ≡ length front + k = omega (arith, size, is) in
-      ap (λ i. get_or whole i 0) left ∙ at k
+  place back k is = let left : length whole - back ≡ length front + k = omega (arith, size, is) in cc (at k)
 
   front_is : take (length front) whole ≡ front
   unfolding whole
@@ -63,11 +58,9 @@ module _ (front : List ℕ) (high low b : ℕ) (byte : byte_of high low ≡ Some
   of_front : IsNoteOf whole front b
   of_front =
       let long : nat_le 3 (length whole) ≡ true = le-leb 3 (length whole) (omega (arith, size)) in
-      let left : length whole - 3 ≡ length front = omega (arith, size) in
-      record {
+      let left : length whole - 3 ≡ length front = omega (arith, size) in record {
         is = ap₂ (λ (p q : Bool). p && q) long (ap (λ c. c == 47) (place 3 0 refl));
-        of =
-            ap₂ (λ (f : List ℕ) (o : Option ℕ). option_and_then (note_at f) o) (ap (λ n. take n whole) left ∙ front_is)
+        of = ap₂ (λ (f : List ℕ) (o : Option ℕ). option_and_then (note_at f) o) (ap (λ n. take n whole) left ∙ front_is)
             (ap₂ byte_of (place 2 1 refl) (place 1 2 refl) ∙ byte);
       }
 
@@ -90,9 +83,8 @@ no_at (c ∷ word) all = ne_eqb c 64 (λ e. is_no_digit c e (and_parts (is_ascii
 block_at : (number b : ℕ) → 0 < number → number < 4294967296 → note_at (decimal number) b ≡ Some (Block number b)
 block_at number b some small =
     let none : (nat_lt 0 (length (decimal number)) && (get_or (decimal number) 0 0 == 64)) ≡ false =
-    ap (λ c. nat_lt 0 (length (decimal number)) && c) (no_at (decimal number) (number_digits number small))
-    ∙ and-false (nat_lt 0 (length (decimal number))) in
-    let above : nat_eq number 0 ≡ false = ne_eqb number 0 (λ e. omega (arith, some, e)) in
+    cc (no_at (decimal number) (number_digits number small), and-false (nat_lt 0 (length (decimal number)))) in
+    let above : nat_eq number 0 ≡ false = ne_eqb number 0 (λ e. omega arith) in
     rw (none, number_back 4294967295 number (omega arith) small, above) refl
 
 address_at : (address : List ℕ) (b : ℕ) → AreBytes 3 address → note_at (64 ∷ bytes_text address) b ≡ Some (Address address b)
@@ -109,16 +101,14 @@ record IsRead (word : List ℕ) (note : Note) : Type 0 where
   is_word : IsWord word
 
 of_parts : (note : Note) (front : List ℕ) (b : ℕ) → b < 256 → note_text note ≡ front ++ (47 ∷ (hexadecimal 2 b ++ []))
-    → note_at front b ≡ Some note
-    → list_all is_inner front ≡ true → IsRead (note_text note) note
+    → note_at front b ≡ Some note → list_all is_inner front ≡ true → IsRead (note_text note) note
 of_parts note front b small are at inner =
     let p = pair_of_byte b small in
-    let whole : note_text note ≡ front ++ 47 ∷ p.high ∷ p.low ∷ [] = are ∙ ap (λ (l : List ℕ). front ++ (47 ∷ (l ++ []))) p.are in
+    let whole : note_text note ≡ front ++ 47 ∷ p.high ∷ p.low ∷ [] = cc in
     let word : IsWord (front ++ 47 ∷ p.high ∷ p.low ∷ []) = record {
       some = omega (arith, length-append front (47 ∷ p.high ∷ p.low ∷ []));
       inner = inner_both front (47 ∷ p.high ∷ p.low ∷ []) inner (rw (p.inner_high, p.inner_low) refl);
-    } in
-    subst (λ (l : List ℕ). IsRead l note) (sym whole)
+    } in subst (λ (l : List ℕ). IsRead l note) (sym whole)
     (record { is = is_note_of p.high p.low p.is; of = of_note_of p.high p.low p.is; is_word = word })
   where
     is_note_of : (high low : ℕ) → byte_of high low ≡ Some b → is_note (front ++ 47 ∷ high ∷ low ∷ []) ≡ true
@@ -148,7 +138,7 @@ module _ (name : List ℕ) (member : Option (List ℕ)) where
       → added (entry name member notes []) (bytes_text user) ≡ Ok (entry name member notes user)
   user_added_back notes user u =
       let short : nat_lt 124 (length (bytes_text user)) ≡ false =
-      le-ltb 124 (length (bytes_text user)) (omega (arith, length_of_bytes user u.small, u.room)) in
+      le-ltb 124 (length (bytes_text user)) (omega (arith, length_of_bytes user u.small)) in
       let even : nat_eq (length user % 2) 0 ≡ true = eq-eqb (length user % 2) 0 u.halfwords in
       let room : nat_lt 62 (4 * length notes + length user) ≡ false = le-ltb 62 (4 * length notes + length user) u.room in
       rw (bytes_are_no_note user u.small, short, bytes_back user u.small, even, room) refl
@@ -157,7 +147,7 @@ module _ (name : List ℕ) (member : Option (List ℕ)) where
       → entry_behind (entry name member notes []) (user_words user) ≡ Ok (entry name member notes user)
   user_back notes [] u = refl
   user_back notes (b ∷ user) u =
-      let some : nat_eq (length (b ∷ user)) 0 ≡ false = ne_eqb (length (b ∷ user)) 0 (λ e. omega (arith, e)) in
+      let some : nat_eq (length (b ∷ user)) 0 ≡ false = ne_eqb (length (b ∷ user)) 0 (λ e. omega arith) in
       rw (some, user_added_back notes (b ∷ user) u) refl
 
   notes_back : (before after : List Note) (user : List ℕ) → length before + length after ≤ 3 → All IsNote after
@@ -169,13 +159,12 @@ module _ (name : List ℕ) (member : Option (List ℕ)) where
       let room : nat_le 3 (length before) ≡ false = lt-leb 3 (length before) (omega arith) in
       let same : (before ++ note ∷ []) ++ after ≡ before ++ note ∷ after = append_assoc before (note ∷ []) after in
       let behind = notes_back (before ++ note ∷ []) after user (simp length-append (omega arith)) (All-tail IsNote note after are)
-      (subst (λ l. AreUser (length l) user) (sym same) u) in
-      rw (n.is, n.of, room) (behind ∙ ap (λ l. Ok (entry name member l user)) same)
+      (subst (λ l. AreUser (length l) user) (sym same) u) in rw (n.is, n.of, room) (cc (behind))
 
 user_are : (user : List ℕ) → All (λ b. b < 256) user → AreWords (user_words user)
 user_are [] small = tt
 user_are (b ∷ user) small =
-    let some : nat_eq (length (b ∷ user)) 0 ≡ false = ne_eqb (length (b ∷ user)) 0 (λ e. omega (arith, e)) in
+    let some : nat_eq (length (b ∷ user)) 0 ≡ false = ne_eqb (length (b ∷ user)) 0 (λ e. omega arith) in
     rw some (record { some = omega (arith, length_of_bytes (b ∷ user) small); inner = bytes_inner (b ∷ user) small }, tt)
 
 notes_are : (notes : List Note) → All IsNote notes → AreWords (map note_text notes)
@@ -187,8 +176,7 @@ line_is : (kind : List ℕ) (names : List (List ℕ)) (notes : List Note) (user 
     → (kind ++ (spaced names ++ [])) ++ user_data_text notes user
     ≡ (kind ++ spaced (names ++ (map note_text notes ++ user_words user))) ++ 10 ∷ []
 unfolding user_data_text
-line_is kind names notes user =
-    rw (closed_is (user_words user), append-nil (spaced names)) (simp (append_assoc, flat_map-append))
+line_is kind names notes user = rw (closed_is (user_words user), append-nil (spaced names)) (simp (append_assoc, flat_map-append))
 
 module _ (e : EntryForm) (is : IsEntryForm e) where
   behind : List (List ℕ)
@@ -210,30 +198,23 @@ module _ (e : EntryForm) (is : IsEntryForm e) where
 
   by_member : (member : Option (List ℕ)) → e.member ≡ member → IfSome member (AreBytes 8) → IsLine (Entry e)
   unfolding behind form_line
-  by_member None are m =
-      record {
-        first = codes "member";
-        words = safe_name_of e.name ∷ behind;
-        are =
-            ap (λ o. named_entry_line (safe_name_of e.name) (option_map safe_name_of o) e) are
-            ∙ line_is (codes "member") (safe_name_of e.name ∷ []) e.notes.items e.user.items;
-        is_word = record { some = lit< tt; inner = refl };
-        are_words = (name_word 8 e.name is.name, behind_are);
-        read = rw (name_back 8 e.name is.name (lit< tt) (lit≤ tt)) (ap an_entry (this None are));
-      }
-  by_member (Some member) are m =
-      record {
-        first = codes "alias";
-        words = safe_name_of e.name ∷ safe_name_of member ∷ behind;
-        are =
-            ap (λ o. named_entry_line (safe_name_of e.name) (option_map safe_name_of o) e) are
-            ∙ line_is (codes "alias") (safe_name_of e.name ∷ safe_name_of member ∷ []) e.notes.items e.user.items;
-        is_word = record { some = lit< tt; inner = refl };
-        are_words = (name_word 8 e.name is.name, (name_word 8 member m, behind_are));
-        read =
-            rw (name_back 8 e.name is.name (lit< tt) (lit≤ tt), name_back 8 member m (lit< tt) (lit≤ tt)) (ap an_entry (this
-            (Some member) are));
-      }
+  by_member None are m = record {
+    first = codes "member";
+    words = safe_name_of e.name ∷ behind;
+    are = cc (line_is (codes "member") (safe_name_of e.name ∷ []) e.notes.items e.user.items);
+    is_word = record { some = lit< tt; inner = refl };
+    are_words = (name_word 8 e.name is.name, behind_are);
+    read = rw (name_back 8 e.name is.name (lit< tt) (lit≤ tt)) (ap an_entry (this None are));
+  }
+  by_member (Some member) are m = record {
+    first = codes "alias";
+    words = safe_name_of e.name ∷ safe_name_of member ∷ behind;
+    are = cc (line_is (codes "alias") (safe_name_of e.name ∷ safe_name_of member ∷ []) e.notes.items e.user.items);
+    is_word = record { some = lit< tt; inner = refl };
+    are_words = (name_word 8 e.name is.name, (name_word 8 member m, behind_are));
+    read = rw (name_back 8 e.name is.name (lit< tt) (lit≤ tt), name_back 8 member m (lit< tt) (lit≤ tt)) (ap an_entry (this
+        (Some member) are));
+  }
 
 pub entry_is_line : (e : EntryForm) → IsEntryForm e → IsLine (Entry e)
 entry_is_line e is = by_member e is e.member refl is.member

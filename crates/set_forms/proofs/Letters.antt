@@ -1,7 +1,6 @@
 -- The words of organisations and record formats, written and read back.
 use Rattle.std.proofs.Common.{ℕ, ◌+◌, ◌*◌, ◌/◌, ◌%◌, ◌<◌, ◌≡◌, ◌==◌, ◌∙◌, List, [], ◌∷◌, Bool, true, false, ◌&&◌, nat_lt, length, codes, ap}
-use Rattle.std.proofs.Common.{refl, sym, lit<, arith}
-use Rattle.std.proofs.Common.{Some, if◌then◌else◌}
+use Rattle.std.proofs.Common.{refl, sym, lit<, arith, Some, if◌then◌else◌}
 use Rattle.std.specs.List.{list_all}
 use Rattle.std.specs.Fmt.{digits}
 use Rattle.std.proofs.lemmas.Bool.{and_parts, eqb-true, ltb-true, agree_below, agree_below_at}
@@ -27,8 +26,7 @@ format_back f small =
 
 pub format_word : (f : ℕ) → f < 256 → IsWord (format_text f)
 unfolding is_format_word
-format_word f small =
-    let both = and_parts (same (format_of (format_text f)) f) (nat_lt 0 (length (format_text f)) && list_all is_inner
+format_word f small = let both = and_parts (same (format_of (format_text f)) f) (nat_lt 0 (length (format_text f)) && list_all is_inner
     (format_text f)) (agree_below_at is_format_word (λ f. true) 256 f each_is_read_back small) in
     let two = and_parts (nat_lt 0 (length (format_text f))) (list_all is_inner (format_text f)) both.1 in
     record { some = ltb-true 0 (length (format_text f)) two.0; inner = two.1 }
@@ -40,8 +38,7 @@ unfolding organisation_of
 bits_back n small =
     let high = pair_of_byte (n / 256) (omega arith) in
     let low = pair_of_byte (n % 256) (omega arith) in
-    let whole : 256 * (n / 256) + n % 256 ≡ n = omega arith in
-    rw (high.are, low.are, high.is, low.is, whole) refl
+    let whole : 256 * (n / 256) + n % 256 ≡ n = omega arith in rw (high.are, low.are, high.is, low.is, whole) refl
 
 bits_word : (n : ℕ) → n < 65536 → IsWord (bits_text (n / 256 ∷ n % 256 ∷ []))
 bits_word n small =
@@ -73,7 +70,7 @@ word_by ps po da is other =
     if ps then codes "PS" else (if po then codes "PO" else (if da then codes "DA" else (if is then codes "IS" else other)))
 
 named : (n bits : ℕ) (word : List ℕ) → organisation_of word ≡ Some bits → (n == bits) ≡ true → organisation_of word ≡ Some n
-named n bits word is same = is ∙ ap Some (sym (eqb-true n bits same))
+named n bits word is same = cc (is, eqb-true n bits same)
 
 module _ (n : ℕ) (small : n < 65536) where
   back_by : (a b c d : Bool) → (n == 0x4000) ≡ a → (n == 0x0200) ≡ b → (n == 0x2000) ≡ c → (n == 0x8000) ≡ d
@@ -102,11 +99,8 @@ module _ (n : ℕ) (small : n < 65536) where
 -- a byte in digits
 
 pub byte_back : (b : ℕ) → b < 256 → byte_in (bits_text (b ∷ [])) ≡ Some b
-byte_back b small =
-    let pair = pair_of_byte b small in
-    rw (pair.are, pair.is) refl
+byte_back b small = let pair = pair_of_byte b small in rw (pair.are, pair.is) refl
 
 pub byte_word : (b : ℕ) → b < 256 → IsWord (bits_text (b ∷ []))
 byte_word b small =
-    let pair = pair_of_byte b small in
-    rw pair.are record { some = omega arith; inner = rw (pair.inner_high, pair.inner_low) refl }
+    let pair = pair_of_byte b small in rw pair.are record { some = omega arith; inner = rw (pair.inner_high, pair.inner_low) refl }

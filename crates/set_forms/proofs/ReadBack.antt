@@ -19,21 +19,18 @@ module _ (form : FormLine) (l : IsLine form) where
 
   lines_are : (text : List ℕ) → lines_of (form_line form ++ text) ≡ line ∷ lines_of text
   unfolding line
-  lines_are text =
-      ap (λ f. lines_of (f ++ text)) l.are ∙ ap lines_of (append_assoc (l.first ++ spaced l.words) (10 ∷ []) text)
-      ∙ line_back l.first l.words text l.is_word l.are_words
+  lines_are text = cc (append_assoc (l.first ++ spaced l.words) (10 ∷ []) text, line_back l.first l.words text l.is_word l.are_words)
 
   read : line_read line ≡ Ok (Some form)
   unfolding line
-  read = ap words_read (words_back l.first l.words l.is_word l.are_words) ∙ l.read
+  read = cc (words_back l.first l.words l.is_word l.are_words)
 
 behind : (before : List FormLine) (number : ℕ) (forms : List FormLine) → AreForms before forms
     → forms_behind before number (lines_of (text_of forms)) ≡ Ok (before ++ forms)
 behind before number [] are = ap Ok (sym (append-nil before))
 behind before number (form ∷ forms) are =
     let l = is_line form are.0 in
-    let more = behind (before ++ form ∷ []) (number + 1) forms are.2 in
-    ap (forms_behind before number) (lines_are form l (text_of forms))
+    let more = behind (before ++ form ∷ []) (number + 1) forms are.2 in ap (forms_behind before number) (lines_are form l (text_of forms))
     ∙ rw (read form l, are.1) (more ∙ ap Ok (append_assoc before (form ∷ []) forms))
 
 pub are_read_back : AreReadBack

@@ -16,8 +16,7 @@ use Rattle.set_forms.specs.Laws.{HasDirectory, AreDetails, IsSetForm}
 use Rattle.set_forms.proofs.Split.{IsWord, AreWords, both_words}
 use Rattle.set_forms.proofs.Digits.{number_back, number_word, day_back, day_word}
 use Rattle.set_forms.proofs.Spelling.{name_back, name_word}
-use Rattle.set_forms.proofs.Letters.{format_back, format_word, organisation_back, organisation_word}
-use Rattle.set_forms.proofs.Letters.{byte_back, byte_word}
+use Rattle.set_forms.proofs.Letters.{format_back, format_word, organisation_back, organisation_word, byte_back, byte_word}
 
 -- a line that is read back: its words, and that they are the form's
 pub record IsLine (form : FormLine) : Type 0 where
@@ -40,17 +39,13 @@ line_is first second third fourth last = rw (closed_is last, append-nil (spaced 
 -- its volume and its extents
 details_back : (details : Option SetDetails) → IfSome details AreDetails → details_read (details_words details) ≡ Ok details
 details_back None is = refl
-details_back (Some d) is =
-    rw (number_back 65535 d.volume (omega (arith, is.volume)) (omega (arith, is.volume)), byte_back d.extents is.extents) refl
+details_back (Some d) is = rw (number_back 65535 d.volume (omega arith) (omega arith), byte_back d.extents is.extents) refl
 
 details_are : (details : Option SetDetails) → IfSome details AreDetails → AreWords (details_words details)
 details_are None is = tt
 details_are (Some d) is = (
   record { some = lit< tt; inner = refl },
-  (
-    number_word d.volume (omega (arith, is.volume)),
-    (record { some = lit< tt; inner = refl }, (byte_word d.extents is.extents, tt)),
-  ),
+  (number_word d.volume (omega arith), (record { some = lit< tt; inner = refl }, (byte_word d.extents is.extents, tt))),
 )
 
 end_back : (p : Bool) (d : Option ℕ) → HasDirectory p d → (details : Option SetDetails) → IfSome details AreDetails
@@ -69,25 +64,23 @@ directory_are false None h = tt
 
 module _ (s : SetForm) (is : IsSetForm s) where
   rest : List (List ℕ)
-  rest =
-      codes "set" ∷ safe_name_of s.name ∷ organisation_text s.organisation ∷ format_text s.format ∷ decimal s.record_length
+  rest = codes "set" ∷ safe_name_of s.name ∷ organisation_text s.organisation ∷ format_text s.format ∷ decimal s.record_length
       ∷ decimal s.block_length
       ∷ decimal s.key_length ∷ day_text s.created ∷ day_text s.expires ∷ (directory_words s.directory ++ details_words s.details)
 
   read : set_read rest ≡ Ok s
   unfolding rest
-  read =
-      rw (
-        name_back 44 s.name is.name (lit< tt) (omega arith),
-        organisation_back s.organisation is.organisation,
-        format_back s.format is.format,
-        number_back 65535 s.record_length (omega (arith, is.record_length)) (omega (arith, is.record_length)),
-        number_back 65535 s.block_length (omega (arith, is.block_length)) (omega (arith, is.block_length)),
-        number_back 255 s.key_length (omega (arith, is.key_length)) (omega (arith, is.key_length)),
-        day_back s.created is.created,
-        day_back s.expires is.expires,
-        end_back (is_partitioned s.organisation) s.directory is.directory s.details is.details,
-      ) refl
+  read = rw (
+    name_back 44 s.name is.name (lit< tt) (omega arith),
+    organisation_back s.organisation is.organisation,
+    format_back s.format is.format,
+    number_back 65535 s.record_length (omega arith) (omega arith),
+    number_back 65535 s.block_length (omega arith) (omega arith),
+    number_back 255 s.key_length (omega arith) (omega arith),
+    day_back s.created is.created,
+    day_back s.expires is.expires,
+    end_back (is_partitioned s.organisation) s.directory is.directory s.details is.details,
+  ) refl
 
   pub set_is_line : IsLine (Set s)
   unfolding rest form_line
@@ -107,11 +100,11 @@ module _ (s : SetForm) (is : IsSetForm s) where
           (
             format_word s.format is.format,
             (
-              number_word s.record_length (omega (arith, is.record_length)),
+              number_word s.record_length (omega arith),
               (
-                number_word s.block_length (omega (arith, is.block_length)),
+                number_word s.block_length (omega arith),
                 (
-                  number_word s.key_length (omega (arith, is.key_length)),
+                  number_word s.key_length (omega arith),
                   (
                     day_word s.created is.created,
                     (

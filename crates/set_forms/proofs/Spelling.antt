@@ -1,11 +1,9 @@
 -- Names that are written and read back.
 use Rattle.std.proofs.Common.{ℕ, zero, suc, ◌+◌, ◌-◌, ◌*◌, ◌<◌, ◌≤◌, ◌≡◌, ◌==◌, ◌∙◌, List, [], ◌∷◌, ◌++◌, Bool, true, false, ◌&&◌, not}
-use Rattle.std.proofs.Common.{nat_lt, nat_eq, ne_eqb}
-use Rattle.std.proofs.Common.{length, take, drop, replicate, get_or, lit<, lit≤, subst, append-nil, length-append, length-drop, ap, refl}
-use Rattle.std.proofs.Common.{sym, arith}
-use Rattle.std.proofs.Common.{Some, None, option_and_then, if◌then◌else◌, length-take-le, reverse}
+use Rattle.std.proofs.Common.{nat_lt, nat_eq, ne_eqb, length, take, drop, replicate, get_or, lit<, lit≤, subst, append-nil, length-append}
+use Rattle.std.proofs.Common.{length-drop, ap, refl, sym, arith, Some, None, option_and_then, if◌then◌else◌, length-take-le, reverse}
 use Rattle.std.specs.List.{All, list_all, flat_map, suffix_len}
-use Rattle.std.proofs.lemmas.Bool.{le-ltb, and_parts, eqb-true, agree_below, agree_below_at}
+use Rattle.std.proofs.lemmas.Bool.{not-true, le-ltb, and_parts, eqb-true, agree_below, agree_below_at}
 use Rattle.std.proofs.lemmas.List.{same_lists, get_or-reverse, take-append-drop, length-replicate, get_or-replicate, get_or-drop}
 use Rattle.std.proofs.lemmas.List.Sums.{suffix_len-le-length, prefix_len_passes}
 use Rattle.std.proofs.lemmas.List.Elements.{All-head, All-tail, All-take}
@@ -32,28 +30,22 @@ pub record IsSpelled (word : List ℕ) (b : ℕ) : Type 0 where
   pub inner : list_all is_inner word ≡ true
   pub read : (most : ℕ) (rest : List ℕ) → bytes_within (suc most) (word ++ rest) ≡ and_more (Some b) (bytes_within most rest)
 
-not_true : (b : Bool) → not b ≡ true → b ≡ false
-not_true true is = absurd (cc)
-not_true false is = refl
-
 of_spelled : (word : List ℕ) (b : ℕ) → is_spelled word b ≡ true → IsSpelled word b
 unfolding is_spelled
 of_spelled [] b is = absurd (cc)
 of_spelled (c ∷ []) b is =
     let both = and_parts (not (c == 37)) (same (plain_byte c) b && is_inner c) is in
-    let two = and_parts (same (plain_byte c) b) (is_inner c) both.1 in
-    record {
+    let two = and_parts (same (plain_byte c) b) (is_inner c) both.1 in record {
       some = omega arith;
       few = omega arith;
       inner = rw two.1 refl;
-      read = λ most rest. rw (not_true (c == 37) both.0, is_same (plain_byte c) b two.0) refl;
+      read = λ most rest. rw (not-true (c == 37) both.0, is_same (plain_byte c) b two.0) refl;
     }
 of_spelled (c ∷ high ∷ []) b is = absurd (cc)
 of_spelled (c ∷ high ∷ low ∷ []) b is =
     let both = and_parts (c == 37) (same (byte_of high low) b && (is_inner high && is_inner low)) is in
     let two = and_parts (same (byte_of high low) b) (is_inner high && is_inner low) both.1 in
-    let inner = and_parts (is_inner high) (is_inner low) two.1 in
-    record {
+    let inner = and_parts (is_inner high) (is_inner low) two.1 in record {
       some = omega arith;
       few = omega arith;
       inner = rw (eqb-true c 37 both.0, inner.0, inner.1) refl;
@@ -79,9 +71,8 @@ spelled false b small =
 
 more_back : (word : List ℕ) (b : ℕ) (bytes rest : List ℕ) (most : ℕ) → IsSpelled word b → length (word ++ rest) ≤ most
     → ((fewer : ℕ) → length rest ≤ fewer → bytes_within fewer rest ≡ Some bytes) → bytes_within most (word ++ rest) ≡ Some (b ∷ bytes)
-more_back word b bytes rest zero s fits behind = absurd (omega (arith, s.some, length-append word rest))
-more_back word b bytes rest (suc most) s fits behind =
-    s.read most rest ∙ ap (λ o. and_more (Some b) o) (behind most (omega (arith, s.some, length-append word rest)))
+more_back word b bytes rest zero s fits behind = absurd (omega (arith, length-append word rest))
+more_back word b bytes rest (suc most) s fits behind = cc (s.read most rest, behind most (omega (arith, length-append word rest)))
 
 rest_back : (bytes : List ℕ) → All (λ b. b < 256) bytes → (most : ℕ) → length (flat_map (byte_name false) bytes) ≤ most
     → bytes_within most (flat_map (byte_name false) bytes) ≡ Some bytes
@@ -96,7 +87,7 @@ rest_fits : (bytes : List ℕ) → All (λ b. b < 256) bytes → length (flat_ma
 rest_fits [] small = omega arith
 rest_fits (b ∷ bytes) small =
     let s = spelled false b (All-head (λ b. b < 256) b bytes small) in
-    simp length-append (omega (arith, s.few, rest_fits bytes (All-tail (λ b. b < 256) b bytes small)))
+    simp length-append (omega (arith, rest_fits bytes (All-tail (λ b. b < 256) b bytes small)))
 
 rest_inner : (bytes : List ℕ) → All (λ b. b < 256) bytes → list_all is_inner (flat_map (byte_name false) bytes) ≡ true
 rest_inner [] small = refl
@@ -113,16 +104,14 @@ pub record IsNameOf (word bytes : List ℕ) : Type 0 where
 
 first_and : (b : ℕ) (bytes : List ℕ) → b < 256 → All (λ b. b < 256) bytes
     → IsNameOf (byte_name true b ++ flat_map (byte_name false) bytes) (b ∷ bytes)
-first_and b bytes small all =
-    let s = spelled true b small in
-    record {
-      some = simp length-append (omega (arith, s.some));
-      few = simp length-append (omega (arith, s.few, rest_fits bytes all));
-      inner = inner_both (byte_name true b) (flat_map (byte_name false) bytes) s.inner (rest_inner bytes all);
-      read = more_back (byte_name true b) b bytes (flat_map (byte_name false) bytes) (length (byte_name true b ++ flat_map
-          (byte_name false) bytes)) s
-          (omega arith) (rest_back bytes all);
-    }
+first_and b bytes small all = let s = spelled true b small in record {
+  some = simp length-append (omega arith);
+  few = simp length-append (omega (arith, rest_fits bytes all));
+  inner = inner_both (byte_name true b) (flat_map (byte_name false) bytes) s.inner (rest_inner bytes all);
+  read = more_back (byte_name true b) b bytes (flat_map (byte_name false) bytes) (length (byte_name true b ++ flat_map
+      (byte_name false) bytes)) s
+      (omega arith) (rest_back bytes all);
+}
 
 -- the bytes of a name without the blanks at its end, and one where all are blanks
 kept_bytes : List ℕ → List ℕ
@@ -131,10 +120,10 @@ kept_bytes (b ∷ bytes) = b ∷ bytes
 
 of_kept : (bytes : List ℕ) → All (λ b. b < 256) bytes → IsNameOf (bytes_names bytes) (kept_bytes bytes)
 unfolding kept_bytes
-of_kept [] all = rw append-nil at (first_and 0x40 [] (lit< tt) (λ k d h. absurd (omega (arith, h))))
+of_kept [] all = rw append-nil at (first_and 0x40 [] (lit< tt) (λ k d h. absurd (omega arith)))
 of_kept (b ∷ bytes) all =
     subst (λ t. IsNameOf (if t then byte_name true 0x40 else byte_name true b ++ flat_map (byte_name false) bytes) (b ∷ bytes))
-    (sym (ne_eqb (length (b ∷ bytes)) 0 (λ e. omega (arith, e))))
+    (sym (ne_eqb (length (b ∷ bytes)) 0 (λ e. omega arith)))
     (first_and b bytes (All-head (λ b. b < 256) b bytes all) (All-tail (λ b. b < 256) b bytes all))
 
 -- behind these a name has blanks
@@ -143,7 +132,7 @@ blanks_behind name =
     let n = suffix_len is_blank name in
     let few : n ≤ length name = suffix_len-le-length is_blank name in
     same_lists (drop (length name - n) name) (replicate n 64) (simp (length-drop, length-replicate) (omega arith))
-    (λ i d inside. at i d (omega (arith, inside, length-drop (length name - n) name, few)) few)
+    (λ i d inside. at i d (omega (arith, length-drop (length name - n) name, few)) few)
   where
     at : (i d : ℕ) → i < suffix_len is_blank name → suffix_len is_blank name ≤ length name
         → get_or (drop (length name - suffix_len is_blank name) name) i d ≡ get_or (replicate (suffix_len is_blank name) 64) i d
@@ -154,25 +143,21 @@ blanks_behind name =
         let place : length name - 1 - j ≡ length name - n + i = omega arith in
         let blank : is_blank (get_or (reverse name) j d) ≡ true = prefix_len_passes is_blank (reverse name) j d (omega arith) in
         let is : get_or (reverse name) j d ≡ 64 = eqb-true (get_or (reverse name) j d) 64 blank in
-        get_or-drop (length name - n) name i d ∙ ap (λ k. get_or name k d) (sym place) ∙ sym mirrored ∙ is
-        ∙ sym (get_or-replicate n i 64 d inside)
+        cc (get_or-drop (length name - n) name i d, get_or-replicate n i 64 d inside)
 
 -- so it is filled up with them again
 filled : (room : ℕ) (name kept : List ℕ) (n : ℕ) → length name ≡ room → 0 < room → name ≡ kept ++ replicate n 64
     → in_room room (kept_bytes kept) ≡ Some name
 unfolding kept_bytes
-filled room name [] zero size some is = absurd (omega (arith, ap length is, size, some))
+filled room name [] zero size some is = absurd (omega (arith, ap length is, some))
 filled room name [] (suc n) size some is =
     let inside : nat_lt room 1 ≡ false = le-ltb room 1 (omega arith) in
-    let left : room - 1 ≡ n = omega (arith, ap length is, length-replicate {A = ℕ} (suc n) 64, size) in
-    rw (inside, left) (ap Some (sym is))
+    let left : room - 1 ≡ n = omega (arith, ap length is, length-replicate {A = ℕ} (suc n) 64) in rw (inside, left) (ap Some (sym is))
 filled room name (b ∷ kept) n size some is =
-    let long : length name ≡ length (b ∷ kept) + n =
-    ap length is ∙ length-append (b ∷ kept) (replicate n 64) ∙ ap (λ m. length (b ∷ kept) + m) (length-replicate {A = ℕ} n 64) in
-    let is_some : nat_eq (length (b ∷ kept)) 0 ≡ false = ne_eqb (length (b ∷ kept)) 0 (λ e. omega (arith, e)) in
-    let inside : nat_lt room (length (b ∷ kept)) ≡ false = le-ltb room (length (b ∷ kept)) (omega (arith, long, size)) in
-    let left : room - length (b ∷ kept) ≡ n = omega (arith, long, size) in
-    rw (is_some, inside, left) (ap Some (sym is))
+    let long : length name ≡ length (b ∷ kept) + n = cc (length-append (b ∷ kept) (replicate n 64), length-replicate {A = ℕ} n 64) in
+    let is_some : nat_eq (length (b ∷ kept)) 0 ≡ false = ne_eqb (length (b ∷ kept)) 0 (λ e. omega arith) in
+    let inside : nat_lt room (length (b ∷ kept)) ≡ false = le-ltb room (length (b ∷ kept)) (omega arith) in
+    let left : room - length (b ∷ kept) ≡ n = omega arith in rw (is_some, inside, left) (ap Some (sym is))
 
 kept_few : (kept : List ℕ) → length kept ≤ 44 → length (kept_bytes kept) ≤ 44
 unfolding kept_bytes
@@ -182,18 +167,15 @@ kept_few (b ∷ kept) few = few
 read_back : (room : ℕ) (word bytes name : List ℕ) → length word ≤ 132 → name_bytes word ≡ Some bytes → in_room room bytes ≡ Some name
     → name_of room word ≡ Some name
 unfolding name_of
-read_back room word bytes name short read fits =
-    ap (λ b. if b then None else option_and_then (in_room room) (name_bytes word)) (le-ltb 132 (length word) short)
-    ∙ ap (λ o. option_and_then (in_room room) o) read ∙ fits
+read_back room word bytes name short read fits = cc (le-ltb 132 (length word) short, read)
 
 pub name_back : (room : ℕ) (name : List ℕ) → AreBytes room name → 0 < room → room ≤ 44 → name_of room (safe_name_of name) ≡ Some name
 name_back room name is some few =
     let n = suffix_len is_blank name in
     let kept = take (length name - n) name in
     let spelled = of_kept kept (All-take (λ b. b < 256) (length name - n) name is.small) in
-    let whole : name ≡ kept ++ replicate n 64 =
-    sym (take-append-drop (length name - n) name) ∙ ap (λ (l : List ℕ). kept ++ l) (blanks_behind name) in
-    let short : length kept ≤ 44 = omega (arith, length-take-le (length name - n) name (omega arith), is.many, few) in
+    let whole : name ≡ kept ++ replicate n 64 = cc (take-append-drop (length name - n) name, blanks_behind name) in
+    let short : length kept ≤ 44 = omega (arith, length-take-le (length name - n) name (omega arith), few) in
     read_back room (safe_name_of name) (kept_bytes kept) name (omega (arith, spelled.few, kept_few kept short)) spelled.read
     (filled room name kept n is.many some whole)
 

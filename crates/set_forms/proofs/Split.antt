@@ -43,24 +43,20 @@ kept word words w =
 
 -- the words of a line that has a blank between each two
 pub words_back : (first : List ℕ) (words : List (List ℕ)) → IsWord first → AreWords words → words_of (first ++ spaced words) ≡ first ∷ words
-words_back first [] f a =
-    ap (λ l. words_of l) (append-nil first) ∙ ap (λ l. filter has_some l) (slice_split_none is_blank first (no_blank first f))
-    ∙ kept first [] f
+words_back first [] f a = cc (append-nil first, slice_split_none is_blank first (no_blank first f), kept first [] f)
 words_back first (word ∷ words) f a =
-    ap (λ l. filter has_some l) (slice_split_at is_blank first 32 (word ++ spaced words) (no_blank first f) refl)
-    ∙ kept first (slice_split is_blank (word ++ spaced words)) f ∙ ap (λ l. first ∷ l) (words_back word words a.0 a.1)
+    let others = kept first (slice_split is_blank (word ++ spaced words)) f in
+    cc (slice_split_at is_blank first 32 (word ++ spaced words) (no_blank first f) refl, words_back word words a.0 a.1)
 
 spaced_has_none : (words : List (List ℕ)) → AreWords words → All (λ c. (c == 10) ≡ false) (spaced words)
 spaced_has_none [] a = All-nil (λ c. (c == 10) ≡ false)
-spaced_has_none (word ∷ words) a =
-    All-cons (λ c. (c == 10) ≡ false) 32 (word ++ spaced words) refl
+spaced_has_none (word ∷ words) a = All-cons (λ c. (c == 10) ≡ false) 32 (word ++ spaced words) refl
     (All-append (λ c. (c == 10) ≡ false) word (spaced words) (no_feed word a.0) (spaced_has_none words a.1))
 
 -- the lines of a text that begins with such a line
 pub line_back : (first : List ℕ) (words : List (List ℕ)) (text : List ℕ) → IsWord first → AreWords words
     → lines_of ((first ++ spaced words) ++ 10 ∷ text) ≡ (first ++ spaced words) ∷ lines_of text
-line_back first words text f a =
-    slice_split_at (λ c. c == 10) (first ++ spaced words) 10 text
+line_back first words text f a = slice_split_at (λ c. c == 10) (first ++ spaced words) 10 text
     (All-append (λ c. (c == 10) ≡ false) first (spaced words) (no_feed first f) (spaced_has_none words a)) refl
 
 -- words, and others behind them

@@ -4,7 +4,6 @@ use Rattle.std.proofs.lemmas.Iterator.Splits.{YieldsList-from_slice_split}
 use Rattle.set_forms.proofs.parsing.lines_of.Goals as goal
 
 pub returns : goal.returns
-returns c =
-    map_from_collect _ c.collect.ensures.ran
+returns c = map_from_collect _ c.collect.ensures.ran
     (YieldsList-from_slice_split _ (λ b. b == 10) c.args.text.now c.split.ensures.rest c.split.ensures.done c.split.ensures.closure
     (λ x b q k. search (rules, tests)))

@@ -5,9 +5,7 @@ use Rattle.set_forms.specs.Parsing.{is_blank}
 use Rattle.set_forms.proofs.parsing.words_of.Goals as goal
 
 pub returns : goal.returns
-returns c =
-    map_from_collect _ c.collect.ensures.ran
-    (YieldsList-from_filter _ (λ word. not (length word == 0))
+returns c = map_from_collect _ c.collect.ensures.ran (YieldsList-from_filter _ (λ word. not (length word == 0))
     (YieldsList-at c.filter.ensures.source
     (YieldsList-from_slice_split _ is_blank c.args.line.now c.split.ensures.rest c.split.ensures.done c.split.ensures.closure
     (λ x b q k. search (rules, tests))))
