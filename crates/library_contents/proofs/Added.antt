@@ -1,6 +1,6 @@
 -- Lines that were added to a report, some after others.
-use Rattle.std.proofs.Common.{◌≡◌, ◌∙◌, ℕ, suc, ◌+◌, ◌-◌, ◌<◌, ◌≤◌, ◌||◌, List, [], ◌∷◌, ◌++◌, length, Some, None, ap, sym}
-use Rattle.std.proofs.Common.{refl, subst, append_assoc, append-nil, arith, Option, Result, Ok, Err, OnOk}
+use Rattle.std.proofs.Common.{◌≡◌, ◌∙◌, ℕ, suc, ◌+◌, ◌-◌, ◌<◌, ◌≤◌, ◌||◌, List, [], ◌∷◌, ◌++◌, length, Some, None, ap, sym, refl, subst}
+use Rattle.std.proofs.Common.{append_assoc, append-nil, arith, Option, Result, Ok, Err, OnOk}
 use Rattle.std.proofs.Math.Bool.{or-false, or_assoc}
 use Rattle.std.specs.Io.KnownBytes.{Appends}
 use Rattle.std.proofs.KnownBytes.{Appends-trans}
@@ -37,21 +37,14 @@ adds_none a = record { text = sym (append-nil a.text.items); is_wrong = sym (or-
 -- some, and then others
 pub adds_both : (a b c : Report) (first next : List Line) → Adds a b first → Adds b c next → Adds a c (first ++ next)
 adds_both a b c first next h k = record {
-  text =
-      k.text ∙ ap (λ (l : List ℕ). l ++ printed next) h.text ∙ append_assoc a.text.items (printed first) (printed next)
-      ∙ ap (λ (l : List ℕ). a.text.items ++ l) (sym (flat_map-append (λ (l : Line). l.text) first next));
-  is_wrong =
-      k.is_wrong ∙ ap (λ b. b || some_wrong next) h.is_wrong ∙ or_assoc a.is_wrong (some_wrong first) (some_wrong next)
-      ∙ ap (λ b. a.is_wrong || b) (sym (list_any-append (λ (l : Line). l.is_wrong) first next));
+  text = cc (append_assoc a.text.items (printed first) (printed next), flat_map-append (λ (l : Line). l.text) first next);
+  is_wrong = cc (or_assoc a.is_wrong (some_wrong first) (some_wrong next), list_any-append (λ (l : Line). l.is_wrong) first next);
 }
 
 -- one line
 pub one_line : (a b : Report) (l : Line) → Appends (Some a.text.items) (Some b.text.items) l.text → b.is_wrong ≡ (a.is_wrong || l.is_wrong)
     → Adds a b (l ∷ [])
-one_line a b l written is = record {
-  text = written ∙ ap (λ (t : List ℕ). a.text.items ++ t) (sym (append-nil l.text));
-  is_wrong = is ∙ ap (λ b. a.is_wrong || b) (sym (or-false l.is_wrong));
-}
+one_line a b l written is = record { text = cc (append-nil l.text); is_wrong = cc (or-false l.is_wrong) }
 
 -- one more, and then the others
 pub one_and : (a b c : Report) (l : Line) (next : List Line) → Adds a b (l ∷ []) → Adds b c next → Adds a c (l ∷ next)
@@ -78,12 +71,10 @@ pub same_left : (a b : Report) (all rest behind : List Line) → AreLeft a b all
 same_left a b all rest behind h is = subst (AreLeft a b all) is h
 
 pub none_left : (a b : Report) (all rest : List Line) → AreLeft a b all rest → rest ≡ [] → Adds a b all
-none_left a b all rest h is =
-    subst (Adds a b) (sym (h.whole ∙ ap (λ (l : List Line). h.done ++ l) is ∙ append-nil h.done)) h.added
+none_left a b all rest h is = subst (Adds a b) (sym (h.whole ∙ ap (λ (l : List Line). h.done ++ l) is ∙ append-nil h.done)) h.added
 
 pub last_left : (a b c : Report) (all rest next : List Line) → AreLeft a b all rest → rest ≡ next → Adds b c next → Adds a c all
-last_left a b c all rest next h is more =
-    subst (Adds a c) (sym (h.whole ∙ ap (λ (l : List Line). h.done ++ l) is)) (adds_both a b c h.done next h.added more)
+last_left a b c all rest next h is more = subst (Adds a c) (sym (cc)) (adds_both a b c h.done next h.added more)
 
 -- the last lines were added, if they were
 module _ (v : KnownVolume) (all rest : Geometry → List (List ℕ) → List Line) where
@@ -98,8 +89,7 @@ module _ (v : KnownVolume) (s : Shown) (extents : List Extent) (x : Blocks) (blo
   pub listed : {T E : Type 0} (r : Result T E) (a b d e : Report) → Adds a b (heading_lines s)
       → AddsOf v b d (entries_lines s extents x.bytes.items)
       → OnOk r (Adds d e (end_lines s None (Some x.stop))) → OnOk r (AddsOf v a e (library_lines s extents))
-  listed (Ok _) a b d e heading entries end = λ slots known.
-      adds_both a b e _ _ heading (adds_both b d e _ _
+  listed (Ok _) a b d e heading entries end = λ slots known. adds_both a b e _ _ heading (adds_both b d e _ _
       (subst (λ (l : List ℕ). Adds b d (entries_lines s extents l v.geometry slots)) (blocks slots known).bytes (entries slots known))
       (subst (λ (o : Option Stop). Adds d e (end_lines s None o)) (blocks slots known).stop end))
   listed (Err _) a b d e heading entries end = end
@@ -117,16 +107,12 @@ module _ (s : Shown) (member : DirectoryEntry → ℕ → List Line) (bytes : Li
 
   module _ (k at : ℕ) where
     pub last_step : length bytes ≤ k → lines_from s member (length bytes - k) bytes at ≡ []
-    last_step passed =
-        let e : length bytes - k ≡ 0 = omega (arith, passed) in
-        ap (λ m. lines_from s member m bytes at) e ∙ no_steps at
+    last_step passed = let e : length bytes - k ≡ 0 = omega (arith, passed) in ap (λ m. lines_from s member m bytes at) e ∙ no_steps at
 
     pub this_step : (x : DirectoryStep) → step_at bytes at ≡ x → k < length bytes
         → lines_from s member (length bytes - k) bytes at ≡ step_lines s member x (lines_from s member (length bytes - (k + 1)) bytes)
     this_step x are inside =
-        let e : length bytes - k ≡ suc (length bytes - (k + 1)) = omega (arith, inside) in
-        ap (λ m. lines_from s member m bytes at) e ∙ more_steps (length bytes - (k + 1)) at
-        ∙ ap (λ x. step_lines s member x (lines_from s member (length bytes - (k + 1)) bytes)) are
+        let e : length bytes - k ≡ suc (length bytes - (k + 1)) = omega arith in cc (more_steps (length bytes - (k + 1)) at)
 
 -- A member that was measured.
 module _ (s : Shown) (e : DirectoryEntry) (user : List ℕ) where
@@ -137,14 +123,11 @@ module _ (s : Shown) (e : DirectoryEntry) (user : List ℕ) where
   module _ (v : KnownVolume) (extents : List Extent) (x : Blocks) (blocks : BlocksOf (wanted Raw extents e.address 65535) v x) where
     pub measured : {T E : Type 0} (r : Result T E) (a b c : Report) (name : List ℕ) → name ≡ safe_name_of e.name
         → Adds a b (plain (member_text s (record { entry = e; name = name; user = user; bytes = length x.bytes.items })) ∷ [])
-        → OnOk r (Adds b c (end_lines s (Some name) (Some x.stop)))
-        → OnOk r (AddsOf v a c (member_lines s extents e user))
+        → OnOk r (Adds b c (end_lines s (Some name) (Some x.stop))) → OnOk r (AddsOf v a c (member_lines s extents e user))
     unfolding these
     measured (Ok _) a b c name is line end = λ slots known.
         let w = source_written (wanted Raw extents e.address 65535) v.geometry slots in
         let same : these name x.bytes.items (Some x.stop) ≡ these (safe_name_of e.name) w.bytes w.stop =
-        ap (λ n. these n x.bytes.items (Some x.stop)) is
-        ∙ ap (λ (l : List ℕ). these (safe_name_of e.name) l (Some x.stop)) (blocks slots known).bytes
-        ∙ ap (λ o. these (safe_name_of e.name) w.bytes o) (blocks slots known).stop in
+        cc ((blocks slots known).bytes, (blocks slots known).stop) in
         subst (Adds a c) same (one_and a b c _ _ line end)
     measured (Err _) a b c name is line end = end

@@ -6,6 +6,5 @@ use Rattle.library_contents.specs.Lines.{at_right}
 
 -- `{n:>width}`
 pub column_is : (width n : ℕ) → padded_integral (format_spec 32 3 0 width (2 ^ 64 - 1)) false [] (decimal n) ≡ at_right width n
-column_is width n =
-    padded_integral_right (format_spec 32 3 0 width (2 ^ 64 - 1)) (decimal n) refl refl (λ (e : 3 ≡ 1). omega arith)
+column_is width n = padded_integral_right (format_spec 32 3 0 width (2 ^ 64 - 1)) (decimal n) refl refl (λ (e : 3 ≡ 1). omega arith)
     (λ (e : 3 ≡ 2). omega arith) (omega arith)

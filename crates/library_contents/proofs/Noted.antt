@@ -1,5 +1,5 @@
 -- The notes of an entry, one after another.
-use Rattle.std.proofs.Common.{ℕ, zero, suc, ◌+◌, ◌-◌, ◌<◌, ◌≤◌, ◌≡◌, ◌∙◌, List, [], ◌∷◌, ◌++◌, Option, Some, None, ap, sym, refl, arith}
+use Rattle.std.proofs.Common.{ℕ, zero, suc, ◌+◌, ◌-◌, ◌<◌, ◌≤◌, ◌≡◌, ◌∙◌, List, [], ◌∷◌, ◌++◌, Option, Some, None, sym, refl, arith}
 use Rattle.library_contents.specs.declared.contents.ReadNote.{ReadNote}
 use Rattle.library_contents.specs.Members.{Library}
 use Rattle.library_contents.specs.Notes.{note_at, and_notes, notes_from}
@@ -19,10 +19,7 @@ module _ (l : Library) (member user : List ℕ) where
       (so_far : notes_from l member user all 0 ≡ before_all notes (notes_from l member user (count - k) k)) where
     this_note : (o : Option ReadNote) → o ≡ note_at l member user k → k < count
         → notes_from l member user all 0 ≡ before_all notes (and_notes o (notes_from l member user (count - (k + 1)) (k + 1)))
-    this_note o is inside =
-        let e : count - k ≡ suc (count - (k + 1)) = omega (arith, inside) in
-        so_far ∙ ap (λ n. before_all notes (notes_from l member user n k)) e ∙ ap (before_all notes) (more_notes (count - (k + 1)) k)
-        ∙ ap (λ (o : Option ReadNote). before_all notes (and_notes o (notes_from l member user (count - (k + 1)) (k + 1)))) (sym is)
+    this_note o is inside = let e : count - k ≡ suc (count - (k + 1)) = omega arith in cc (more_notes (count - (k + 1)) k)
 
     pub one_more_note : (note : ReadNote) → Some note ≡ note_at l member user k → k < count
         → notes_from l member user all 0 ≡ before_all (notes ++ note ∷ []) (notes_from l member user (count - (k + 1)) (k + 1))
@@ -33,6 +30,4 @@ module _ (l : Library) (member user : List ℕ) where
     leads_nowhere is inside = sym (this_note None is inside)
 
     pub all_notes : count ≤ k → Some notes ≡ notes_from l member user all 0
-    all_notes passed =
-        let e : count - k ≡ 0 = omega (arith, passed) in
-        sym (so_far ∙ ap (λ n. before_all notes (notes_from l member user n k)) e ∙ ap (before_all notes) (no_notes k) ∙ last_before notes)
+    all_notes passed = let e : count - k ≡ 0 = omega arith in sym (cc (no_notes k, last_before notes))

@@ -1,7 +1,6 @@
 -- A walk over the entries of a directory.
-use Rattle.std.proofs.Common.{ℕ, zero, suc, ◌+◌, ◌-◌, ◌<◌, ◌≤◌, ◌≡◌, ◌∙◌, List, []}
-use Rattle.std.proofs.Common.{◌∷◌, ◌++◌, length, map, Option, Some, None, option_map, ap, sym, refl}
-use Rattle.std.proofs.Common.{append-nil, append_assoc, arith}
+use Rattle.std.proofs.Common.{ℕ, zero, suc, ◌+◌, ◌-◌, ◌<◌, ◌≤◌, ◌≡◌, ◌∙◌, List, [], ◌∷◌, ◌++◌, length, map, Option, Some, None, option_map}
+use Rattle.std.proofs.Common.{ap, sym, refl, append-nil, append_assoc, arith}
 use Rattle.volume_labels.specs.declared.directories.DirectoryEntry.{DirectoryEntry}
 use Rattle.volume_labels.specs.declared.directories.DirectoryFault.{DirectoryFault}
 use Rattle.volume_labels.specs.declared.directories.DirectoryStep.{DirectoryStep}
@@ -36,23 +35,16 @@ module _ (bytes : List ℕ) where
   no_steps at = refl
 
   pub none_yet : (items : List PlacedEntry) → items ≡ [] → placed_entries bytes ≡ before_all items (placed_from (length bytes - 0) bytes 0)
-  none_yet items are =
-      let e : length bytes ≡ length bytes - 0 = omega arith in
-      ap (λ m. placed_from m bytes 0) e ∙ none_before (placed_from (length bytes - 0) bytes 0)
-      ∙ ap (λ (l : List PlacedEntry). before_all l (placed_from (length bytes - 0) bytes 0)) (sym are)
+  none_yet items are = let e : length bytes ≡ length bytes - 0 = omega arith in cc (none_before (placed_from (length bytes - 0) bytes 0))
 
   module _ (k at : ℕ) where
     pub last_step : length bytes ≤ k → placed_from (length bytes - k) bytes at ≡ Some []
-    last_step passed =
-        let e : length bytes - k ≡ 0 = omega (arith, passed) in
-        ap (λ m. placed_from m bytes at) e ∙ no_steps at
+    last_step passed = let e : length bytes - k ≡ 0 = omega (arith, passed) in ap (λ m. placed_from m bytes at) e ∙ no_steps at
 
     pub this_step : (s : DirectoryStep) → step_at bytes at ≡ s → k < length bytes
         → placed_from (length bytes - k) bytes at ≡ on_step s (placed_from (length bytes - (k + 1)) bytes)
     this_step s are inside =
-        let e : length bytes - k ≡ suc (length bytes - (k + 1)) = omega (arith, inside) in
-        ap (λ m. placed_from m bytes at) e ∙ more_steps (length bytes - (k + 1)) at
-        ∙ ap (λ s. on_step s (placed_from (length bytes - (k + 1)) bytes)) are
+        let e : length bytes - k ≡ suc (length bytes - (k + 1)) = omega arith in cc (more_steps (length bytes - (k + 1)) at)
 
   -- The same entries as `volume_labels` reads.
 
@@ -73,10 +65,8 @@ module _ (bytes : List ℕ) where
   over_right e (Some f) entries = refl
 
   one_more : (e : DirectoryEntry) (end : ℕ) (placed : Option (List PlacedEntry)) (fault : Option DirectoryFault)
-      (entries : List DirectoryEntry)
-      → plain placed ≡ if_right fault entries → plain (and_more e end placed) ≡ if_right fault (e ∷ entries)
-  one_more e end placed fault entries is =
-      over_more e end placed ∙ ap (λ o. option_map (λ (es : List DirectoryEntry). e ∷ es) o) is ∙ over_right e fault entries
+      (entries : List DirectoryEntry) → plain placed ≡ if_right fault entries → plain (and_more e end placed) ≡ if_right fault (e ∷ entries)
+  one_more e end placed fault entries is = cc (over_more e end placed, over_right e fault entries)
 
   same_step : (s : DirectoryStep) (placed : ℕ → Option (List PlacedEntry)) (found : ℕ → Found)
       → ((at : ℕ) → plain (placed at) ≡ right (found at)) → plain (on_step s placed) ≡ right (from_step s found)

@@ -1,7 +1,6 @@
 -- The entries of a library that are read one after another.
-use Rattle.std.proofs.Common.{ℕ, ◌+◌, ◌<◌, ◌≤◌, ◌≡◌, ◌∙◌, List, [], ◌∷◌}
-use Rattle.std.proofs.Common.{◌++◌, length, map, take, drop, get_or, Option, Some, Result, Ok, Err}
-use Rattle.std.proofs.Common.{ap, sym, refl, subst, append_assoc, append-nil, position}
+use Rattle.std.proofs.Common.{ℕ, ◌+◌, ◌<◌, ◌≤◌, ◌≡◌, ◌∙◌, List, [], ◌∷◌, ◌++◌, length, map, take, drop, get_or, Some, Result, Ok}
+use Rattle.std.proofs.Common.{Err, ap, sym, refl, subst, append_assoc, append-nil, position}
 use Rattle.std.proofs.lemmas.List.{map-append, take_more, drop_more, drop_all}
 use Rattle.volume_labels.specs.declared.fields.Extent.{Extent}
 use Rattle.volume_labels.specs.declared.fields.RelativeAddress.{RelativeAddress}
@@ -42,19 +41,14 @@ module _ (l : Library) (bytes : List ℕ) where
 
   pub none_read : (placed : List PlacedEntry) (entries : List ReadEntry) → entries ≡ []
       → entries_read l bytes 1 placed ≡ after_these (map said_by entries) (entries_read l bytes (0 + 1) (drop 0 placed))
-  none_read placed entries are =
-      none_before (entries_read l bytes 1 placed)
-      ∙ ap (λ (es : List ReadEntry). after_these (map said_by es) (entries_read l bytes 1 placed)) (sym are)
+  none_read placed entries are = cc (none_before (entries_read l bytes 1 placed))
 
   module _ (placed : List PlacedEntry) (k : ℕ) (entries : List ReadEntry)
       (so_far : entries_read l bytes 1 placed ≡ after_these (map said_by entries) (entries_read l bytes (k + 1) (drop k placed))) where
     this_entry : (d : PlacedEntry) → k < length placed → entries_read l bytes 1 placed
         ≡ after_these (map said_by entries) (and_entries (entry_read l bytes (k + 1) (get_or placed k d))
         (entries_read l bytes ((k + 1) + 1) (drop (k + 1) placed)))
-    this_entry d inside =
-        so_far
-        ∙ ap (λ (ps : List PlacedEntry). after_these (map said_by entries) (entries_read l bytes (k + 1) ps)) (drop_more placed k d inside)
-        ∙ ap (after_these (map said_by entries)) (more_entries (k + 1) (get_or placed k d) (drop (k + 1) placed))
+    this_entry d inside = cc (drop_more placed k d inside, more_entries (k + 1) (get_or placed k d) (drop (k + 1) placed))
 
     pub one_more_entry : (d : PlacedEntry) (e : ReadEntry) → k < length placed
         → entry_read l bytes (k + 1) (get_or placed k d) ≡ Ok (said_by e)
@@ -62,22 +56,14 @@ module _ (l : Library) (bytes : List ℕ) where
         (entries_read l bytes ((k + 1) + 1) (drop (k + 1) placed))
     one_more_entry d e inside is =
         let rest = entries_read l bytes ((k + 1) + 1) (drop (k + 1) placed) in
-        this_entry d inside ∙ ap (λ r. after_these (map said_by entries) (and_entries r rest)) is
-        ∙ one_before (map said_by entries) (said_by e) rest
-        ∙ ap (λ (es : List EntryRead). after_these es rest) (sym (map-append said_by entries (e ∷ [])))
+        cc (this_entry d inside, one_before (map said_by entries) (said_by e) rest, map-append said_by entries (e ∷ []))
 
-    one_fault : (d : PlacedEntry) (f : LibraryReadFault) → k < length placed
-        → entry_read l bytes (k + 1) (get_or placed k d) ≡ Err f
+    one_fault : (d : PlacedEntry) (f : LibraryReadFault) → k < length placed → entry_read l bytes (k + 1) (get_or placed k d) ≡ Err f
         → entries_read l bytes 1 placed ≡ Err f
-    one_fault d f inside is =
-        this_entry d inside
-        ∙ ap (λ r. after_these (map said_by entries) (and_entries r (entries_read l bytes ((k + 1) + 1) (drop (k + 1) placed)))) is
+    one_fault d f inside is = cc (this_entry d inside)
 
     pub all_entries : length placed ≤ k → entries_read l bytes 1 placed ≡ Ok (map said_by entries)
-    all_entries passed =
-        so_far
-        ∙ ap (λ (ps : List PlacedEntry). after_these (map said_by entries) (entries_read l bytes (k + 1) ps)) (drop_all k placed passed)
-        ∙ ap (after_these (map said_by entries)) (no_entries (k + 1)) ∙ ap Ok (append-nil (map said_by entries))
+    all_entries passed = cc (drop_all k placed passed, no_entries (k + 1), append-nil (map said_by entries))
 
     pub that_fault : (f : LibraryReadFault) (d : PlacedEntry) → k < length placed
         → GivesEntry (entry_read l bytes (k + 1) (get_or placed k d)) (Err f) → IsFault l bytes placed f
@@ -96,10 +82,7 @@ module _ (placed : List PlacedEntry) (k : ℕ) (starts : List RelativeAddress)
   module _ (d : PlacedEntry) (inside : k < length placed) (now : List RelativeAddress)
       (is : now ≡ with_start starts (get_or placed k d).entry.address) where
     pub next_starts : starts_from now (drop (k + 1) placed) ≡ starts_of placed
-    next_starts =
-        ap (λ (s : List RelativeAddress). starts_from s (drop (k + 1) placed)) is
-        ∙ sym (more_starts starts (get_or placed k d) (drop (k + 1) placed))
-        ∙ ap (starts_from starts) (sym (drop_more placed k d inside)) ∙ left
+    next_starts = cc (more_starts starts (get_or placed k d) (drop (k + 1) placed), drop_more placed k d inside)
 
     pub one_more_number : (entries : List ReadEntry) (e : ReadEntry)
         → position (same_address (get_or placed k d).entry.address) now ≡ Some e.member
@@ -107,12 +90,10 @@ module _ (placed : List PlacedEntry) (k : ℕ) (starts : List RelativeAddress)
         → numbers_in (entries ++ e ∷ []) ≡ map (member_of placed) (take (k + 1) placed)
     one_more_number entries e found so_far =
         let p = get_or placed k d in
-        let own : member_of placed p ≡ Some e.member = ap (position (same_address p.entry.address)) (sym next_starts)
-        ∙ stays_in (drop (k + 1) placed) now p.entry.address e.member found in
-        map-append (λ (e : ReadEntry). Some e.member) entries (e ∷ []) ∙ ap (λ (l : List (Option ℕ)). l ++ Some e.member ∷ []) so_far
-        ∙ ap (λ (o : Option ℕ). map (member_of placed) (take k placed) ++ o ∷ []) (sym own)
-        ∙ sym (map-append (member_of placed) (take k placed) (p ∷ []))
-        ∙ ap (map (member_of placed)) (sym (take_more placed k d inside))
+        let one = stays_in (drop (k + 1) placed) now p.entry.address e.member found in
+        let own : member_of placed p ≡ Some e.member = cc (next_starts) in
+        let two = map-append (λ (e : ReadEntry). Some e.member) entries (e ∷ []) in
+        cc (map-append (member_of placed) (take k placed) (p ∷ []), take_more placed k d inside)
 
 -- what was read of a volume that stayed
 pub of_same_volume : (extents : List Extent) (v w : KnownVolume) (bytes : List ℕ) (n : Numbered)

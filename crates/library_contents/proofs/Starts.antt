@@ -1,10 +1,9 @@
 -- The addresses of members, each once, and the members that were read from them.
-use Rattle.std.proofs.Common.{ℕ, ◌+◌, ◌<◌, ◌≤◌, ◌≡◌, ◌∙◌, Bool, true}
-use Rattle.std.proofs.Common.{false, cond, nat_lt, ◌&&◌, ◌==◌, List, [], ◌∷◌, ◌++◌, length, map, get_or}
-use Rattle.std.proofs.Common.{not, Option, Some, None, ap, sym, refl, arith, position, length-append}
+use Rattle.std.proofs.Common.{ℕ, ◌+◌, ◌<◌, ◌≤◌, ◌≡◌, ◌∙◌, Bool, true, cond, nat_lt, ◌==◌, List, [], ◌∷◌, ◌++◌, length, map}
+use Rattle.std.proofs.Common.{get_or, not, Option, Some, None, ap, sym, refl, arith, position, length-append}
 use Rattle.std.specs.List.{position_or_len}
 use Rattle.std.specs.Global.{Vec}
-use Rattle.std.proofs.lemmas.Bool.{eqb-true, eq-eqb}
+use Rattle.std.proofs.lemmas.Bool.{and_parts, and_from, eqb-true, eq-eqb}
 use Rattle.std.proofs.lemmas.List.{get_or-map, get_or_append_left, map-append}
 use Rattle.std.proofs.Math.Seq.{get_or-append_seam}
 use Rattle.std.proofs.lemmas.List.Quantifiers.{position-Some}
@@ -48,40 +47,27 @@ module _ {X : Type 0} (p : X → Bool) (xs : List X) (y : X) where
       (position_or_len_push p xs y ∙ pushed (position_or_len p xs) (p y) own passes) (omega (arith, longer))
 
 -- An address is that which is found as the same.
-both : (a b : Bool) → (a && b) ≡ true → (a ≡ true) × (b ≡ true)
-both true true is = (refl, refl)
-both true false is = grind arith
-both false b is = grind arith
-
 pub one_address : (a b : RelativeAddress) → same_address a b ≡ true → a ≡ b
 one_address a b same =
-    let parts = both (a.track == b.track) (a.number == b.number) same in
+    let parts = and_parts (a.track == b.track) (a.number == b.number) same in
     ap (λ (t : ℕ). record { track = t; number = a.number }) (eqb-true a.track b.track parts.0)
     ∙ ap (λ (n : ℕ). record { track = b.track; number = n }) (eqb-true a.number b.number parts.1)
 
-two_true : (a b : Bool) → a ≡ true → b ≡ true → (a && b) ≡ true
-two_true a b first second = grind arith
-
 pub itself : (a : RelativeAddress) → same_address a a ≡ true
-itself a = two_true (a.track == a.track) (a.number == a.number) (eq-eqb a.track a.track refl) (eq-eqb a.number a.number refl)
+itself a = and_from (a.track == a.track) (a.number == a.number) (eq-eqb a.track a.track refl) (eq-eqb a.number a.number refl)
 
 -- What was read from an address that is found.
 module _ (f : RelativeAddress → Option (List ℕ)) (blocks : List (Vec ℕ)) (starts : List RelativeAddress) where
   pub is_read : (start : RelativeAddress) (n : ℕ) (b : Vec ℕ) → buffers blocks ≡ map f starts → length blocks ≡ length starts
       → position (same_address start) starts ≡ Some n → b ≡ get_or blocks n b → f start ≡ Some b.items
   is_read start n b are count found is =
-      let s = position-Some (same_address start) starts n start found in
-      ap f (one_address start (get_or starts n start) s.1)
-      ∙ sym (get_or-map f starts n start None s.0)
-      ∙ ap (λ (l : List (Option (List ℕ))). get_or l n None) (sym are)
-      ∙ get_or-map (λ (b : Vec ℕ). Some b.items) blocks n b None (omega (arith, s.0, count))
-      ∙ ap (λ (b : Vec ℕ). Some b.items) (sym is)
+      let s = position-Some (same_address start) starts n start found in ap f (one_address start (get_or starts n start) s.1)
+      ∙ sym (get_or-map f starts n start None s.0) ∙ ap (λ (l : List (Option (List ℕ))). get_or l n None) (sym are)
+      ∙ get_or-map (λ (b : Vec ℕ). Some b.items) blocks n b None (omega (arith, s.0, count)) ∙ ap (λ (b : Vec ℕ). Some b.items) (sym is)
 
   pub one_more_read : (b : Vec ℕ) (start : RelativeAddress) → buffers blocks ≡ map f starts → f start ≡ Some b.items
       → buffers (blocks ++ b ∷ []) ≡ map f (starts ++ start ∷ [])
-  one_more_read b start are is =
-      map-append (λ (b : Vec ℕ). Some b.items) blocks (b ∷ []) ∙ ap (λ (l : List (Option (List ℕ))). l ++ Some b.items ∷ []) are
-      ∙ ap (λ (o : Option (List ℕ)). map f starts ++ o ∷ []) (sym is) ∙ sym (map-append f starts (start ∷ []))
+  one_more_read b start are is = cc (map-append (λ (b : Vec ℕ). Some b.items) blocks (b ∷ []), map-append f starts (start ∷ []))
 
 -- With an address behind others, if it is none of them.
 module _ (starts : List RelativeAddress) (start : RelativeAddress) where
@@ -113,8 +99,7 @@ no_starts starts = refl
 pub stays_in : (placed : List PlacedEntry) (starts : List RelativeAddress) (start : RelativeAddress) (n : ℕ)
     → position (same_address start) starts ≡ Some n → position (same_address start) (starts_from starts placed) ≡ Some n
 stays_in [] starts start n is = ap (position (same_address start)) (no_starts starts) ∙ is
-stays_in (p ∷ placed) starts start n is =
-    ap (position (same_address start)) (more_starts starts p placed)
+stays_in (p ∷ placed) starts start n is = ap (position (same_address start)) (more_starts starts p placed)
     ∙ stays_in placed (with_start starts p.entry.address) start n (stays_there starts p.entry.address start n is)
 
 -- A member that was not read before.
@@ -128,23 +113,18 @@ module _ (extents : List Extent) (v : KnownVolume) (start : RelativeAddress) (m 
   one_more_buffer = ap (λ (l : List (Vec ℕ)). length l) adds.blocks ∙ length-append m.blocks.items (x ∷ [])
 
   at_last : (n : ℕ) (b : Vec ℕ) → n ≡ length m.blocks.items → b ≡ get_or now.blocks.items n b → b ≡ x
-  at_last n b last is =
-      is ∙ ap (λ (l : List (Vec ℕ)). get_or l n b) adds.blocks ∙ ap (λ n. get_or (m.blocks.items ++ x ∷ []) n b) last
-      ∙ get_or-append_seam m.blocks.items x [] b
+  at_last n b last is = cc (get_or-append_seam m.blocks.items x [] b)
 
   pub is_numbered : (n : ℕ) → n ≡ length m.starts.items → HasNumber extents v start m now n
   is_numbered n last = record {
     starts = adds.starts ∙ is_new m.starts.items start none;
-    number = ap (position (same_address start)) adds.starts
-        ∙ is_found_last (same_address start) m.starts.items start none (itself start) ∙ ap Some (sym last);
+    number = cc (is_found_last (same_address start) m.starts.items start none (itself start));
     read = record {
-      count = one_more_buffer ∙ ap (λ n. n + 1) read.count ∙ sym one_more_start;
+      count = cc (one_more_buffer, one_more_start);
       blocks = λ slots known.
           let f = blocks_at (library_on extents v.geometry slots) in
-          ap (λ (l : List (Vec ℕ)). buffers l) adds.blocks
-          ∙ one_more_read f m.blocks.items m.starts.items x start (read.blocks slots known) (sym (whole slots known))
-          ∙ ap (λ (l : List RelativeAddress). map f l) (sym adds.starts);
+          cc (one_more_read f m.blocks.items m.starts.items x start (read.blocks slots known) (sym (whole slots known)));
     };
-    within = omega (arith, one_more_buffer, read.count, last);
-    blocks = λ slots known b is. sym (whole slots known) ∙ ap (λ (b : Vec ℕ). Some b.items) (sym (at_last n b (last ∙ sym read.count) is));
+    within = omega (arith, one_more_buffer);
+    blocks = λ slots known b is. cc (whole slots known, at_last n b (last ∙ sym read.count) is);
   }

@@ -8,8 +8,7 @@ loop-init c = none_yet _ _ c.new-entries.ensures.items
 
 pub returns-in-End : goal.returns-in-End
 returns-in-End c =
-    let is = this_step _ _ _ _ (sym c.directory_step.ensures ∙ c.in-End.is) c.loop-test.true in
-    sym (c.loop.invariant ∙ ap (before_all c.loop.entries.items) is ∙ last_before c.loop.entries.items)
+    let is = this_step _ _ _ _ (sym c.directory_step.ensures ∙ c.in-End.is) c.loop-test.true in sym (cc (last_before c.loop.entries.items))
 
 pub returns-in-Fault : goal.returns-in-Fault
 returns-in-Fault c =

@@ -22,8 +22,7 @@ loop-number-preserved g c =
     let inside = c.loop-number-test.true in
     let entry = rw (so_far.volume) at c.in-Ok.ensures.entry in
     let m = rw (so_far.volume) at c.in-Ok.ensures.member in record {
-      entries = λ slots known.
-          rw (c.in_default.ensures.entries)
+      entries = λ slots known. rw (c.in_default.ensures.entries)
           (one_more_entry _ _ _ _ _ (so_far.entries slots known) _ c.in-Ok.entry inside (entry slots known));
       starts = next_starts _ _ _ so_far.starts _ inside _ m.starts;
       numbers = rw (c.in_default.ensures.entries)
@@ -38,8 +37,7 @@ returns-clause-library g c = λ slots known.
     let so_far = c.loop-number.invariant in
     let passed = c.loop-number-test.false in
     let placed = c.args.placed.now in
-    let l = library_on c.args.directory.extents.now (g.V.SlotReader.volume c.args.volume.now).geometry slots in
-    record {
+    let l = library_on c.args.directory.extents.now (g.V.SlotReader.volume c.args.volume.now).geometry slots in record {
       entries = all_entries _ _ _ _ _ (so_far.entries slots known) passed;
       numbers = so_far.numbers ∙ ap (map (member_of placed)) (take_all c.loop-number.number placed passed);
       members = so_far.members.blocks slots known

@@ -12,8 +12,7 @@ invariant-loop-number g l =
     let extents = l.directory.extents.now in
     let bytes = l.directory.bytes.now in record {
       entries : (slots : List (List ℕ)) → before.slots ≡ Some slots
-          → entries_read (library_on extents before.geometry slots) bytes 1 l.placed
-          ≡ after_these (map said_by l.entries.items)
+          → entries_read (library_on extents before.geometry slots) bytes 1 l.placed ≡ after_these (map said_by l.entries.items)
           (entries_read (library_on extents before.geometry slots) bytes (l.number + 1) (drop l.number l.placed));
       starts : starts_from l.members.starts.items (drop l.number l.placed) ≡ starts_of l.placed;
       numbers : numbers_in l.entries.items ≡ map (member_of l.placed) (take l.number l.placed);

@@ -8,8 +8,7 @@ pub returns : goal.returns
 unfolding member_line
 returns g c =
     let m = c.args.listed in
-    let written =
-    rw (
+    let written = rw (
       c.in_radix.ensures,
       c.laid_out.ensures,
       c.in_radix-2.ensures,

@@ -10,8 +10,7 @@ returns-in-Some-clause-number g c =
     let m = c.args.members.now in
     let found : position (same_address c.args.start) m.starts.items ≡ Some c.in-Some.number =
     rw (c.as_slice-starts.ensures.value) at (sym c.find_start.ensures ∙ c.in-Some.is) in
-    let s = position-Some (same_address c.args.start) m.starts.items c.in-Some.number c.args.start found in
-    record {
+    let s = position-Some (same_address c.args.start) m.starts.items c.in-Some.number c.args.start found in record {
       starts = was_there m.starts.items c.args.start c.in-Some.number found;
       number = found;
       read = c.requires.read;

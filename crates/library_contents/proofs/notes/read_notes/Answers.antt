@@ -12,8 +12,7 @@ pub loop-k-preserved : goal.loop-k-preserved
 loop-k-preserved g c =
     let inside : c.loop-k.k < c.args.count = omega (arith, c.loop-k-test.true, c.from-k-end.ensures) in
     let is = rw (c.loop-k.invariant.volume, c.in-Ok-Some.field-0-is) at c.in-Ok-Some.ensures.note in record {
-      notes = λ slots known.
-          rw (c.in_default.ensures.notes)
+      notes = λ slots known. rw (c.in_default.ensures.notes)
           (one_more_note _ _ _ _ _ _ _ (c.loop-k.invariant.notes slots known) c.in-Ok-Some.note (is slots known) inside);
       volume = search (rules, tests);
       failures = search (rules, tests);
@@ -21,5 +20,4 @@ loop-k-preserved g c =
 
 pub returns-clause-notes : goal.returns-clause-notes
 returns-clause-notes g c = λ slots known.
-    let passed : c.args.count ≤ c.loop-k.k = omega (arith, c.loop-k-test.false, c.from-k-end.ensures) in
-    all_notes _ _ _ _ _ _ _ (c.loop-k.invariant.notes slots known) passed
+    let passed : c.args.count ≤ c.loop-k.k = omega arith in all_notes _ _ _ _ _ _ _ (c.loop-k.invariant.notes slots known) passed

@@ -10,8 +10,7 @@ invariant-loop-k g l =
     let before = g.V.SlotReader.volume l.fn.volume in
     let user = l.noted.user.now in record {
       notes : (slots : List (List ℕ)) → before.slots ≡ Some slots
-          → notes_from (library_on l.noted.extents.now before.geometry slots) l.noted.member.now user l.count 0
-          ≡ before_all l.notes.items
+          → notes_from (library_on l.noted.extents.now before.geometry slots) l.noted.member.now user l.count 0 ≡ before_all l.notes.items
           (notes_from (library_on l.noted.extents.now before.geometry slots) l.noted.member.now user (l.count - l.k) l.k);
       volume : g.V.SlotReader.volume l.volume ≡ before;
       failures : g.V.SlotReader.failures l.volume ≡ g.V.SlotReader.failures l.fn.volume;
