@@ -1,21 +1,17 @@
 -- A volume that gets a data set, or does not.
-use Rattle.std.proofs.Common.{◌≡◌, ◌∙◌, ap, sym, refl, ℕ, List, [], Result, Ok, Err, IfOk, IfErr, inl, inr, None}
+use Rattle.std.proofs.Common.{◌≡◌, ◌∙◌, ap, refl, ℕ, List, [], inl, inr, None}
 use Rattle.ckd_track.specs.declared.geometries.Geometry.{Geometry}
-use Rattle.std.specs.List.{position}
-use Rattle.volume_contents.specs.declared.blocks.Block.{Block}
 use Rattle.volume_contents.specs.declared.reading.Contents.{Contents}
-use Rattle.volume_contents.specs.Sets.{has_name}
 use Rattle.volume_contents.specs.Contents.{Said, contents_of, SaysOf as IsSaid}
 use Rattle.volume_changes.specs.Volumes.{said_in}
 use Rattle.loaded_sets.specs.declared.place_fault.PlaceFault.{PlaceFault}
 use Rattle.loaded_sets.specs.declared.place_fault.PlaceFault.TheVariants as place
 use Rattle.loaded_sets.specs.Volumes.{Labelled, SaysOf, IsUnfit, all_findings, unfit_of, unfit_on_label, unfit_on_table, unfit_by}
-use Rattle.loaded_sets.specs.Faults.{LoadFault}
+use Rattle.loaded_sets.specs.Faults.{LoadFault, placing_fault}
 use Rattle.changed_volumes.specs.declared.fault.ChangeFault.TheVariants as fault
 use Rattle.loaded_sets.specs.declared.contents.LoadedSet.{LoadedSet}
-use Rattle.loaded_sets.specs.Contents.{blocks_on, blocks_unless_unfit, blocks_unless_taken}
+use Rattle.loaded_sets.specs.Contents.{blocks_on, blocks_unless_unfit}
 use Rattle.loaded_sets.specs.Loaded.{Loaded, IsNotLoaded}
-use Rattle.loaded_sets.specs.Faults.{placing_fault}
 use Rattle.loaded_sets.specs.Parts.{blocks_for, IsPut, IsNotPut}
 
 pub same_said : (s : Said) (c : Contents) → IsSaid s c → said_in c ≡ s
@@ -26,10 +22,7 @@ module _ (g : Geometry) (s : Said) (v : Labelled) (says : SaysOf g s v) (nothing
   fit = ap (unfit_on_label g s) says.label ∙ ap (unfit_on_table g s) says.table ∙ ap unfit_by nothing
 
   pub fits : (set : LoadedSet) → blocks_on g set s ≡ blocks_for v set
-  fits set =
-      ap (blocks_unless_unfit g.model set s.blocks) fit
-      ∙ ap (λ (b : List Block). blocks_unless_taken g.model set (position (has_name set.name) b)) says.blocks
-      ∙ ap (λ (h : Geometry). blocks_unless_taken h.model set (position (has_name set.name) v.blocks)) (sym says.geometry)
+  fits set = cc (fit)
 
 module _ (g : Geometry) (before : List (List ℕ)) (v : Labelled) (says : SaysOf g (contents_of g before) v) where
   module _ (nothing : all_findings g (contents_of g before) ≡ []) (set : LoadedSet) where
@@ -54,12 +47,3 @@ pub unfit : (g : Geometry) (slots : List (List ℕ)) (set : LoadedSet) (f : Plac
     → IsNotLoaded (placing_fault f) set g slots
 unfit g slots set (place.Refused r) why = inl (ap (blocks_unless_unfit g.model set (contents_of g slots).blocks) why)
 unfit g slots set (place.Job f) why = why
-
--- what is known where a call went well, or failed
-pub if_ok : (r : Result ℕ LoadFault) (P Q : ℕ → Type 0) → ((n : ℕ) → P n → Q n) → IfOk r P → IfOk r Q
-if_ok (Ok n) P Q more is = more n is
-if_ok (Err f) P Q more is = tt
-
-pub if_err : (r : Result ℕ LoadFault) (P Q : LoadFault → Type 0) → ((f : LoadFault) → P f → Q f) → IfErr r P → IfErr r Q
-if_err (Ok n) P Q more is = tt
-if_err (Err f) P Q more is = more f is

@@ -2,7 +2,6 @@
 use Rattle.std.proofs.Common.{◌≡◌, ◌∙◌, ap, sym, refl, ℕ, List, [], map, Bor, Result, Ok, Err, IfOk, IfErr, inl, inr, None, ◌⊎◌}
 use Rattle.std.specs.List.{position}
 use Rattle.ckd_track.specs.declared.geometries.Geometry.{Geometry}
-use Rattle.volume_contents.specs.declared.blocks.Block.{Block}
 use Rattle.volume_contents.specs.Sets.{has_name}
 use Rattle.volume_contents.specs.Contents.{Said, contents_of}
 use Rattle.record_tracks.specs.declared.blocks.Cut.{Cut}
@@ -12,10 +11,9 @@ use Rattle.loaded_sets.specs.declared.place_fault.PlaceFault.TheVariants as plac
 use Rattle.loaded_sets.specs.Volumes.{Labelled, SaysOf, IsUnfit, all_findings}
 use Rattle.loaded_sets.specs.declared.contents.SourceForm.{SourceForm}
 use Rattle.loaded_sets.specs.declared.contents.SourceForm.TheVariants as source
-use Rattle.loaded_sets.specs.Faults.{LoadFault}
+use Rattle.loaded_sets.specs.Faults.{LoadFault, placing_fault}
 use Rattle.changed_volumes.specs.declared.fault.ChangeFault.TheVariants as fault
 use Rattle.loaded_sets.specs.Contents.{layout_of_set}
-use Rattle.loaded_sets.specs.Faults.{placing_fault}
 use Rattle.loaded_sets.proofs.Fits.{fit}
 use Rattle.loaded_sets.specs.declared.libraries.LoadedLibrary.{LoadedLibrary}
 use Rattle.loaded_sets.specs.Members.{MemberBlocks, cut_in, members_by, fitting_members, unless_unfit, blocks_with, blocks_in}
@@ -52,10 +50,7 @@ module _ (v : Labelled) (library : LoadedLibrary) (free : position (has_name lib
     module _ (b : MemberBlocks) (layout : b.layout ≡ l) (cut : b.cut ≡ cut_in library.source l) where
       module _ (by : members_by library.source l files ≡ Ok b.members) where
         chosen : blocks_for v library ≡ unless_unfit b (fitting_members v.geometry.model library.form.key_length b)
-        chosen =
-            with_layout ∙ ap (blocks_with v.geometry.model library l) by
-            ∙ ap (λ (c : MemberBlocks). unless_unfit c (fitting_members v.geometry.model library.form.key_length c))
-            (same l (cut_in library.source l) b.members b layout cut refl)
+        chosen = cc (with_layout, same l (cut_in library.source l) b.members b layout cut refl)
 
         pub put : (slots now : List (List ℕ)) (r : Result ℕ LoadFault) → IfOk r (λ tracks. IsSet v library b slots tracks now)
             → IfOk r (λ tracks. IsPut v library slots tracks now)
@@ -75,10 +70,7 @@ module _ (v : Labelled) (library : LoadedLibrary) (free : position (has_name lib
 
 module _ (g : Geometry) (s : Said) (v : Labelled) (says : SaysOf g s v) (nothing : all_findings g s ≡ []) where
   fits : (library : LoadedLibrary) → blocks_on g library s ≡ blocks_for v library
-  fits library =
-      ap (blocks_unless_barred g.model library s.blocks) (fit g s v says nothing)
-      ∙ ap (λ (b : List Block). blocks_unless_taken g.model library (position (has_name library.name) b)) says.blocks
-      ∙ ap (λ (h : Geometry). blocks_unless_taken h.model library (position (has_name library.name) v.blocks)) (sym says.geometry)
+  fits library = cc (fit g s v says nothing)
 
 module _ (g : Geometry) (before : List (List ℕ)) (v : Labelled) (says : SaysOf g (contents_of g before) v) where
   module _ (nothing : all_findings g (contents_of g before) ≡ []) (library : LoadedLibrary) where

@@ -1,10 +1,9 @@
 -- The records of a library on a volume.
-use Rattle.std.proofs.Common.{◌≡◌, ◌∙◌, ap, sym, ℕ, ◌≤◌, ◌<◌, List}
-use Rattle.std.proofs.Common.{[], ◌∷◌, length, map, arith, All, get_or, length-append, None, ◌++◌}
+use Rattle.std.proofs.Common.{◌≡◌, ◌∙◌, ap, sym, ℕ, ◌≤◌, ◌<◌, List, [], ◌∷◌, length, map, arith, All, get_or, length-append, None, ◌++◌}
 use Rattle.std.proofs.lemmas.List.{get_or-map, length-map}
 use Rattle.std.proofs.lemmas.List.Elements.{All-map}
 use Rattle.ckd_track.specs.declared.model.DriveModel.{DriveModel}
-use Rattle.record_tracks.specs.Records.{Areas, end_of_file, GoesOn, RecordGoesOn}
+use Rattle.record_tracks.specs.Records.{end_of_file, GoesOn, RecordGoesOn}
 use Rattle.record_tracks.proofs.Listed.{length-all, blocks_go}
 use Rattle.record_tracks.specs.declared.blocks.Cut.{Cut}
 use Rattle.record_tracks.specs.Blocks.{first_areas, rests_of, block_areas, AreBlocks}
@@ -47,14 +46,8 @@ pub set_of : (n : NamedLibrary) (model : DriveModel) (p : PlacedSet) (directory 
     → p.name ≡ n.name → p.label ≡ n.label → areas p ≡ library_areas directory n.library.members.now → p.last ≡ length p.records.now
     → IsSetOf n.name n.label model n.library p
 set_of n model p directory made name label is last =
-    let own : areas p ≡ own_areas model n.library =
-    is ∙ ap (λ (bytes : List ℕ). library_areas bytes n.library.members.now) made in
-    record {
-      name = name;
-      label = label;
-      records = own;
-      last = last ∙ sym (length-all p.records.now) ∙ ap length own;
-    }
+    let own : areas p ≡ own_areas model n.library = is ∙ ap (λ (bytes : List ℕ). library_areas bytes n.library.members.now) made in
+    record { name = name; label = label; records = own; last = last ∙ sym (length-all p.records.now) ∙ ap length own }
 
 -- they have no place
 pub not_named : (v : Labelled) (n : NamedLibrary) (p : PlacedSet) (slots : List (List ℕ)) → library_fault v.geometry.model n.library ≡ None
@@ -70,9 +63,7 @@ blocks_go_on model cut bytes each = All-map (GoesOn model) (first_areas cut) (re
 pub members_go : (model : DriveModel) (cut : Cut) (members : List NewMember) (files : List (List ℕ))
     → map member_areas members ≡ map (block_areas cut) files → All (HasBlocks model cut) files → All (MemberGoesOn model) members
 members_go model cut members files are each k d there =
-    let here : k < length files =
-    omega (arith, there, length-map members member_areas, length-map files (block_areas cut), ap length are) in
+    let here : k < length files = omega (arith, length-map members member_areas, length-map files (block_areas cut), ap length are) in
     blocks_go model (get_or members k d).records.now (block_areas cut (get_or files k []))
-    (sym (get_or-map member_areas members k d [] there) ∙ ap (λ (all : List (List Areas)). get_or all k []) are
-    ∙ get_or-map (block_areas cut) files k [] [] here)
+    (cc (get_or-map member_areas members k d [] there, get_or-map (block_areas cut) files k [] [] here))
     (blocks_go_on model cut (get_or files k []) (each k [] here).blocks)

@@ -1,6 +1,6 @@
 -- A library on a volume is read: its directory, and the bytes of its members.
-use Rattle.std.proofs.Common.{◌≡◌, ◌∙◌, ap, sym, refl, subst, ℕ, zero, suc, ◌+◌, ◌<◌, List}
-use Rattle.std.proofs.Common.{[], ◌∷◌, length, map, get_or, flat_map, arith, All, Result, Ok, Err, IfOk, IfErr, inr}
+use Rattle.std.proofs.Common.{◌≡◌, ap, sym, refl, subst, ℕ, zero, suc, ◌+◌, ◌<◌, List, [], ◌∷◌, length, map, get_or, flat_map, arith}
+use Rattle.std.proofs.Common.{All, Result, Ok, Err, IfOk, IfErr, inr}
 use Rattle.std.proofs.Math.ListN as at
 use Rattle.std.proofs.lemmas.List.Elements.{All-nil, All-head, All-tail}
 use Rattle.ckd_track.specs.declared.model.DriveModel.{DriveModel}
@@ -75,9 +75,7 @@ module _ (v : Labelled) (library : LoadedLibrary) (b : MemberBlocks) (l : NewLib
           let its = at_any (HasBlocks v.geometry.model b.cut) b.members e.member sound (nothing v.geometry.model b.cut) in
           let start = (entry_read (entry_contents v.geometry.model l e)).address in
           let are : blocks_of_member l.members.now e.member ≡ block_areas b.cut bytes =
-          ap (λ (all : List (List Areas)). get_or all e.member []) is.members
-          ∙ ap (get_or (map (block_areas b.cut) b.members) e.member) (sym (no_blocks b.cut))
-          ∙ at.get_or-map (block_areas b.cut) b.members e.member [] in
+          cc (no_blocks b.cut, at.get_or-map (block_areas b.cut) b.members e.member []) in
           let end = (block_address v.geometry.model l e.member (length (block_areas b.cut bytes))).track in
           let read = subst (λ (blocks : List Areas).
           (block_address v.geometry.model l e.member (length blocks)).track < start.track + most
@@ -85,8 +83,8 @@ module _ (v : Labelled) (library : LoadedLibrary) (b : MemberBlocks) (l : NewLib
           → source_written (wanted (form_of b.cut) found start most) v.geometry now
           ≡ ended_by_file (flat_map (text_of b.cut) blocks) (block_address v.geometry.model l e.member (length blocks)).track) are
           (from (form_of b.cut) (text_of b.cut) v.geometry found now most has) in
-          read within (have_texts v.geometry.model b.cut bytes its.blocks)
-          ∙ ap (λ (text : List ℕ). ended_by_file text end) (blocks_text v.geometry.model b.cut bytes its.below its.blocks)
+          let one = read within (have_texts v.geometry.model b.cut bytes its.blocks) in
+          cc (blocks_text v.geometry.model b.cut bytes its.below its.blocks)
 
       pub gets_library : GetsLibrary v library b before tracks now
       gets_library = record {
@@ -108,8 +106,7 @@ module _ (v : Labelled) (library : LoadedLibrary) (b : MemberBlocks) (n : NamedL
     module _ (fit : fitting_members v.geometry.model library.form.key_length b ≡ Ok b.members) where
       renamed : (tracks : ℕ) (now : List (List ℕ)) → IsNamed v n slots tracks now
           → GetsRecords v library.name (label_of library.form library.kept b.layout) n.library slots tracks now
-      renamed tracks now gets =
-          subst (λ (its : SetLabel). GetsRecords v library.name its n.library slots tracks now) label
+      renamed tracks now gets = subst (λ (its : SetLabel). GetsRecords v library.name its n.library slots tracks now) label
           (subst (λ (its : List ℕ). GetsRecords v its n.label n.library slots tracks now) name gets)
 
       pub is_set : All (HasBlocks v.geometry.model b.cut) b.members → (now : List (List ℕ)) (r : Result ℕ LoadFault)

@@ -15,8 +15,7 @@ use Rattle.loaded_sets.proofs.Fits.{same_said}
 
 -- a volume that has a data set is one that can get others
 pub fit : (v : Labelled) (s : Said) (block : NewDataSet) (a : RecordAddress) (i : ℕ) → HasSet v s block a i → unfit_of v.geometry s ≡ None
-fit v s block a i has =
-    ap (unfit_on_label v.geometry s) has.says ∙ ap (unfit_on_table v.geometry s) has.counts ∙ ap unfit_by has.nothing
+fit v s block a i has = ap (unfit_on_label v.geometry s) has.says ∙ ap (unfit_on_table v.geometry s) has.counts ∙ ap unfit_by has.nothing
 
 abbrev table_in : ContentsBlock → Option ContentsBlock → ContentsBlock
 table_in other None = other
@@ -25,14 +24,12 @@ table_in other (Some t) = t
 -- what a volume lists that has a data set
 pub listed : (v now : Labelled) (g : Geometry) (s : Said) (block : NewDataSet) (a : RecordAddress) (i : ℕ) → SaysOf g s now
     → HasSet v s block a i → IsListed v now block a i
-listed v now g s block a i says has =
-    let table : now.table ≡ has.table = ap (table_in now.table) (sym says.table ∙ has.counts) in
-    record {
-      it = subst (λ (b : List Block). IsFound b block i) says.blocks (record { found = has.found; key = has.key; bytes = has.bytes });
-      more = ap length (sym says.blocks) ∙ has.more;
-      last = ap (λ (t : ContentsBlock). t.last_data_set) table ∙ has.last;
-      free = ap (λ (t : ContentsBlock). t.free_blocks) table ∙ has.free;
-    }
+listed v now g s block a i says has = let table : now.table ≡ has.table = ap (table_in now.table) (sym says.table ∙ has.counts) in record {
+  it = subst (λ (b : List Block). IsFound b block i) says.blocks (record { found = has.found; key = has.key; bytes = has.bytes });
+  more = ap length (sym says.blocks) ∙ has.more;
+  last = ap (λ (t : ContentsBlock). t.last_data_set) table ∙ has.last;
+  free = ap (λ (t : ContentsBlock). t.free_blocks) table ∙ has.free;
+}
 
 -- a reader does not find a data set that such a volume does not list
 pub unlisted : (v now : Labelled) (g : Geometry) (slots : List (List ℕ)) (c : Contents) (block : NewDataSet) (a : RecordAddress)

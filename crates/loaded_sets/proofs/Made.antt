@@ -1,6 +1,6 @@
 -- What is made of the files of members, one after another.
-use Rattle.std.proofs.Common.{◌≡◌, ◌∙◌, ap, sym, refl, ℕ, ◌+◌, ◌<◌, List, [], ◌∷◌}
-use Rattle.std.proofs.Common.{◌++◌, length, drop, take, get_or, Result, Ok, Err, arith, map, Bor, ◌≤◌}
+use Rattle.std.proofs.Common.{◌≡◌, ◌∙◌, ap, sym, refl, ℕ, ◌+◌, ◌<◌, List, [], ◌∷◌, ◌++◌, length, drop, take, get_or, Result, Ok, Err, arith}
+use Rattle.std.proofs.Common.{map, Bor, ◌≤◌}
 use Rattle.std.proofs.lemmas.List.{drop_more, append_assoc, append-nil, drop_all, take_more, get_or-map, length-map, map-append}
 use Rattle.volume_labels.specs.declared.layouts.Layout.{Layout}
 use Rattle.loaded_sets.specs.Contents.{text_bytes, IsNoText}
@@ -37,16 +37,12 @@ module _ (make : List ℕ → Result (List ℕ) ContentFault) (files : List (Lis
   -- one more is made
   pub next : (made : List (List ℕ)) (bytes : List ℕ) → make (get_or files k []) ≡ Ok bytes
       → behind made (each_made make (k + 1) (drop k files)) ≡ behind (made ++ bytes ∷ []) (each_made make (k + 1 + 1) (drop (k + 1) files))
-  next made bytes is =
-      ap (behind made) (at_next ∙ ap (λ (r : Result (List ℕ) ContentFault). and_others (k + 1) r
-      (each_made make (k + 1 + 1) (drop (k + 1) files))) is)
-      ∙ one_more made bytes (each_made make (k + 1 + 1) (drop (k + 1) files))
+  next made bytes is = cc (at_next, one_more made bytes (each_made make (k + 1 + 1) (drop (k + 1) files)))
 
   -- nothing is made of one
   pub failed : (made : List (List ℕ)) (f : ContentFault) → make (get_or files k []) ≡ Err f
       → behind made (each_made make (k + 1) (drop k files)) ≡ Err (refusal.Member (k + 1) f)
-  failed made f is =
-      ap (behind made) (at_next ∙ ap (λ (r : Result (List ℕ) ContentFault). and_others (k + 1) r
+  failed made f is = ap (behind made) (at_next ∙ ap (λ (r : Result (List ℕ) ContentFault). and_others (k + 1) r
       (each_made make (k + 1 + 1) (drop (k + 1) files))) is)
 
 -- the same of files that stand in memory
@@ -82,19 +78,13 @@ module _ (make : List ℕ → Result (List ℕ) ContentFault) (files : List (Bor
   -- one more of those that are found of each
   pub next_found : {X : Type 0} (of : List ℕ → X) (found : List X) (x : X) → found ≡ map of (take k held) → x ≡ of (get_or files k d).now
       → found ++ x ∷ [] ≡ map of (take (k + 1) held)
-  next_found of found x so_far is =
-      ap (λ (xs : List _). xs ++ x ∷ []) so_far
-      ∙ ap (λ (y : _). map of (take k held) ++ y ∷ []) is
-      ∙ sym (map-append of (take k held) ((get_or files k d).now ∷ []))
-      ∙ ap (map of) (sym one_longer)
+  next_found of found x so_far is = cc (map-append of (take k held) ((get_or files k d).now ∷ []), one_longer)
 
 -- all are made
 pub all_made : (make : List ℕ → Result (List ℕ) ContentFault) (files : List (List ℕ)) (number : ℕ) (made : List (List ℕ))
     → (k : ℕ) → length files ≤ k → behind made (each_made make number (drop k files)) ≡ Ok made
 unfolding each_made
-all_made make files number made k past =
-    ap (λ (left : List (List ℕ)). behind made (each_made make number left)) (drop_all k files past)
-    ∙ ap Ok (append-nil made)
+all_made make files number made k past = cc (drop_all k files past, append-nil made)
 
 -- why a text is none
 pub no_text : (l : Layout) (text : List ℕ) (u : Unmade) → IsNoText u l text → IsNoneFor u (text_bytes l text)

@@ -1,6 +1,6 @@
 -- Records that were put onto a volume are the blocks of a file.
-use Rattle.std.proofs.Common.{◌≡◌, ◌∙◌, ap, sym, refl, subst, ℕ, ◌+◌, ◌-◌, List, [], ◌∷◌, length, arith, Result, Ok, Err, None, All}
-use Rattle.std.proofs.Common.{IfOk, IfErr, inl, inr, length-append}
+use Rattle.std.proofs.Common.{◌≡◌, ◌∙◌, ap, sym, refl, subst, ℕ, ◌+◌, ◌-◌, List, [], ◌∷◌, length, arith, Result, Ok, Err, None, All, IfOk}
+use Rattle.std.proofs.Common.{IfErr, inl, inr, length-append}
 use Rattle.ckd_track.specs.declared.model.DriveModel.{DriveModel}
 use Rattle.record_tracks.specs.Records.{Areas, all_areas, end_of_file, RecordGoesOn}
 use Rattle.record_tracks.specs.Tracks.{Takes}
@@ -8,13 +8,12 @@ use Rattle.record_tracks.specs.ReadBack.{IsLoaded}
 use Rattle.record_tracks.specs.declared.records.NewRecord.{NewRecord}
 use Rattle.record_tracks.proofs.Listed.{length-all}
 use Rattle.record_tracks.specs.declared.blocks.Cut.{Cut}
-use Rattle.record_tracks.specs.Blocks.{areas_of, block_areas, cut_by}
+use Rattle.record_tracks.specs.Blocks.{areas_of, block_areas}
 use Rattle.record_tracks.specs.Extracted.{IsReadBack}
 use Rattle.record_tracks.specs.BlockFaults.{block_fault_of}
 use Rattle.volume_contents.specs.Contents.{contents_of, block_in}
 use Rattle.volume_contents.specs.Sets.{extents_behind, has_name}
 use Rattle.std.specs.List.{position}
-use Rattle.volume_labels.specs.declared.layouts.AttributeFault.{AttributeFault}
 use Rattle.volume_labels.specs.declared.layouts.Layout.{Layout}
 use Rattle.loaded_sets.specs.declared.place_fault.PlaceFault.{PlaceFault}
 use Rattle.loaded_sets.specs.declared.place_fault.PlaceFault.TheVariants as place
@@ -23,18 +22,16 @@ use Rattle.loaded_sets.specs.Volumes.{Labelled}
 use Rattle.loaded_sets.specs.Sets.{areas, CanBePlaced}
 use Rattle.loaded_sets.specs.Placed.{GetsSet, IsNotPlaced}
 use Rattle.loaded_sets.specs.declared.contents.LoadedSet.{LoadedSet}
-use Rattle.loaded_sets.specs.Faults.{LoadFault}
+use Rattle.loaded_sets.specs.Faults.{LoadFault, placing_fault}
 use Rattle.changed_volumes.specs.declared.fault.ChangeFault.TheVariants as fault
 use Rattle.loaded_sets.specs.declared.fault.LoadRefusal.TheVariants as refusal
 use Rattle.loaded_sets.specs.declared.fault.ContentFault.{ContentFault}
 use Rattle.loaded_sets.specs.declared.fault.Unmade.{Unmade}
 use Rattle.loaded_sets.specs.declared.fault.Unmade.TheVariants as unmade
-use Rattle.loaded_sets.specs.declared.contents.SourceForm.{SourceForm}
 use Rattle.loaded_sets.specs.declared.contents.SourceForm.TheVariants as source
-use Rattle.loaded_sets.specs.Contents.{FileBlocks, label_of, blocks_by, blocks_fitting, blocks_in, blocks_with}
-use Rattle.loaded_sets.specs.Contents.{blocks_unless_taken, layout_of_set, unless_faulty, told_of_set, cut_so, IsNoText}
+use Rattle.loaded_sets.specs.Contents.{FileBlocks, label_of, blocks_by, blocks_fitting}
+use Rattle.loaded_sets.specs.Contents.{layout_of_set, unless_faulty, told_of_set, IsNoText}
 use Rattle.loaded_sets.specs.Loaded.{IsSetOf}
-use Rattle.loaded_sets.specs.Faults.{placing_fault}
 use Rattle.loaded_sets.specs.Parts.{blocks_for, unmade_fault, IsPut, IsNotPut, IsSet, IsNotSet}
 use Rattle.loaded_sets.proofs.PlacedRead.{first_loaded}
 use Rattle.loaded_sets.proofs.TextLines.{lines_read}
@@ -42,17 +39,12 @@ use Rattle.loaded_sets.proofs.TextLines.{lines_read}
 -- records that are the blocks and an end of file are one more than the blocks
 pub counted : (records : List NewRecord) (cut : Cut) (bytes : List ℕ) → all_areas records ≡ areas_of cut bytes
     → length records ≡ length (block_areas cut bytes) + 1
-counted records cut bytes is =
-    sym (length-all records) ∙ ap length is ∙ length-append (block_areas cut bytes) (end_of_file ∷ [])
+counted records cut bytes is = sym (length-all records) ∙ ap length is ∙ length-append (block_areas cut bytes) (end_of_file ∷ [])
 
 -- they can be put onto a volume
 pub can_be : (model : DriveModel) (p : PlacedSet) (b : FileBlocks) → areas p ≡ areas_of b.cut b.bytes
     → All (RecordGoesOn model) p.records.now → p.last ≡ length p.records.now - 1 → CanBePlaced model p
-can_be model p b is each last = record {
-  each = each;
-  some = omega (arith, counted p.records.now b.cut b.bytes is);
-  last = omega (arith, last);
-}
+can_be model p b is each last = record { each = each; some = omega (arith, counted p.records.now b.cut b.bytes is); last = omega arith }
 
 -- they are those of the data set
 pub set_of : (set : LoadedSet) (b : FileBlocks) (p : PlacedSet) → p.name ≡ set.name → p.label ≡ label_of set.form set.kept b.layout
@@ -104,10 +96,7 @@ module _ (v : Labelled) (set : LoadedSet) (b : FileBlocks) (p : PlacedSet) (is :
 module _ (v : Labelled) (set : LoadedSet) (free : position (has_name set.name) v.blocks ≡ None) (l : Layout) where
   module _ (is : layout_of_set set.form ≡ Ok l) (b : FileBlocks) (by : blocks_by set.source l set.bytes.now ≡ Ok b) where
     chosen : blocks_for v set ≡ told_of_set (blocks_fitting v.geometry.model set.form.key_length b)
-    chosen =
-        ap (blocks_unless_taken v.geometry.model set) free
-        ∙ ap (λ (r : Result Layout AttributeFault). told_of_set (blocks_in v.geometry.model set r)) is
-        ∙ ap (λ (r : Result FileBlocks ContentFault). told_of_set (blocks_with v.geometry.model set.form.key_length r)) by
+    chosen = cc
 
     pub put : (slots : List (List ℕ)) (now : List (List ℕ)) (r : Result ℕ LoadFault) → IfOk r (λ tracks. IsSet v set b slots tracks now)
         → IfOk r (λ tracks. IsPut v set slots tracks now)
@@ -132,12 +121,7 @@ module _ (v : Labelled) (set : LoadedSet) (free : position (has_name set.name) v
   -- its text is none
   pub no_text : layout_of_set set.form ≡ Ok l → set.source ≡ source.Text → (slots : List (List ℕ)) (f : Unmade)
       → IsNoText f l set.bytes.now → IsNotPut (unmade_fault f) v set slots
-  no_text is text slots (unmade.Content f) why =
-      inl (ap (blocks_unless_taken v.geometry.model set) free
-      ∙ ap (λ (r : Result Layout AttributeFault). told_of_set (blocks_in v.geometry.model set r)) is
-      ∙ ap (λ (s : SourceForm). told_of_set (blocks_with v.geometry.model set.form.key_length (blocks_by s l set.bytes.now))) text
-      ∙ ap (λ (r : Result (List ℕ) ContentFault).
-      told_of_set (blocks_with v.geometry.model set.form.key_length (cut_so l (cut_by l.form l.longest) r))) why)
+  no_text is text slots (unmade.Content f) why = inl (cc)
   no_text is text slots unmade.OutOfMemory why = tt
 
 -- the blocks that are made of bytes that are told apart so

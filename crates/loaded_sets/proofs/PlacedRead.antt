@@ -32,8 +32,7 @@ pub one_extent : (blocks : List Block) (b : Block) (s : NewDataSet) → data_set
     → s.extent.kind ≡ 1 → extents_behind blocks b ≡ s.extent ∷ []
 one_extent blocks b s read kind =
     ap (λ (d : DataSetBlock). first_extents d ++ flat_map extents_in (links_from 21 false blocks d.next).links) read
-    ∙ ap (λ (l : Links). first_extents (data_set_read s) ++ flat_map extents_in l.links) (ends blocks)
-    ∙ rw kind refl
+    ∙ ap (λ (l : Links). first_extents (data_set_read s) ++ flat_map extents_in l.links) (ends blocks) ∙ rw kind refl
 
 -- the tracks of that extent have the areas
 pub are_loaded : (g : Geometry) (e : Extent) (areas : List Areas) (first tracks : ℕ) (before now : List (List ℕ))
@@ -48,5 +47,4 @@ pub first_loaded : (v : Labelled) (set : PlacedSet) (before : List (List ℕ)) (
     → (gets : GetsSet v set before tracks now)
     → IsLoaded v.geometry (extents_behind (contents_of v.geometry now).blocks (block_in (contents_of v.geometry now).blocks gets.place)) now
     (areas set) gets.gets.room.used
-first_loaded v set before tracks now gets i there =
-    gets.loaded i (omega (arith, there, gets.gets.room.all, le-max_right set.label.tracks gets.gets.room.used))
+first_loaded v set before tracks now gets i there = gets.loaded i (omega (arith, le-max_right set.label.tracks gets.gets.room.used))

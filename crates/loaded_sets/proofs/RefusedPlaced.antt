@@ -53,14 +53,7 @@ module _ (v : Labelled) (set : PlacedSet) (slots : List (List ℕ)) where
       p.run.first,
       p.run.tracks,
       placed.gets,
-      inr (record {
-        block = p.block;
-        new = placed.new;
-        address = a;
-        now = now;
-        written = is.written;
-        lost = why;
-      }),
+      inr (record { block = p.block; new = placed.new; address = a; now = now; written = is.written; lost = why }),
     )
     unseen (fault.Refused refusal.NoFreeBlock) why = elim why [ ]
     unseen (fault.Refused (refusal.Volume r)) why = elim why [ ]

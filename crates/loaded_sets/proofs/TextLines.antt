@@ -1,13 +1,11 @@
 -- A text that was put onto a volume is read as its lines.
-use Rattle.std.proofs.Common.{◌≡◌, ◌∙◌, ap, sym, refl, subst, ℕ, zero, suc, ◌-◌, ◌*◌, ◌/◌, ◌%◌, ◌≤◌, ◌==◌}
-use Rattle.std.proofs.Common.{Bool, true, false, cond, not, nat_lt}
-use Rattle.std.proofs.Common.{List, length, arith, Option, Some, None}
+use Rattle.std.proofs.Common.{◌≡◌, ◌∙◌, ap, sym, refl, subst, ℕ, zero, suc, ◌-◌, ◌*◌, ◌/◌, ◌%◌, ◌≤◌, ◌==◌, Bool, true, false, cond, not}
+use Rattle.std.proofs.Common.{nat_lt, List, length, arith, Option, Some, None}
 use Rattle.std.proofs.lemmas.Bool.Decides.{nat_tests}
 use Rattle.std.proofs.lemmas.Nat.{div-add-mod'}
 use Rattle.ckd_track.specs.declared.model.DriveModel.{DriveModel}
 use Rattle.ckd_track.specs.declared.geometries.Geometry.{Geometry}
 use Rattle.ckd_track.specs.Model.{capacity_of}
-use Rattle.volume_labels.specs.declared.records.RecordForm.{RecordForm}
 use Rattle.volume_labels.specs.declared.records.RecordForm.TheVariants.{Fixed}
 use Rattle.dasd_extract.specs.declared.blocks.ExtractedForm.TheVariants.{Text}
 use Rattle.dasd_extract.specs.Walk.{wanted, source_written}
@@ -17,7 +15,7 @@ use Rattle.record_tracks.specs.declared.block_faults.BlockFault.{BlockFault}
 use Rattle.record_tracks.specs.declared.block_faults.BlockFault.TheVariants as fault
 use Rattle.record_tracks.specs.Blocks.{areas_of}
 use Rattle.record_tracks.specs.Extracted.{first_block}
-use Rattle.record_tracks.specs.BlockFaults.{block_fault_of, cut_fault, length_fault, fixed_fault, lacks_keys}
+use Rattle.record_tracks.specs.BlockFaults.{block_fault_of, cut_fault, fixed_fault, lacks_keys}
 use Rattle.volume_labels.specs.declared.layouts.Layout.{Layout}
 use Rattle.record_tracks.specs.Tracks.{Takes}
 use Rattle.record_tracks.specs.ReadBack.{IsLoaded, ended_by_file}
@@ -59,9 +57,7 @@ fit model l key_length n bytes size some form is =
     let first = passed (lacks_keys key_length (Length n)) fault.Keys none is in
     let second = passed (l.longest == 0) fault.NoBlockLength long first.1 in
     let third = passed (nat_lt (capacity_of model) l.longest) fault.LongBlock cut second.1 in
-    let fixed : fixed_fault size l.longest (length bytes) ≡ None =
-    ap (λ (f : RecordForm). length_fault f l.longest (length bytes)) (sym form) ∙ third.1 in
-    record {
+    let fixed : fixed_fault size l.longest (length bytes) ≡ None = cc in record {
       some = grind (arith, nat_tests, second.0);
       most = grind (arith, nat_tests, third.0);
       whole = fixed_whole size l.longest (length bytes) some fixed;
@@ -80,8 +76,7 @@ module _ (g : Geometry) (b : FileBlocks) (key_length : ℕ) (fits : block_fault_
     module _ (takes : Takes g.model (areas_of b.cut b.bytes) tracks) (extents : List Extent) (slots : List (List ℕ))
         (loaded : IsLoaded g extents slots (areas_of b.cut b.bytes) tracks) where
       it : Fit g.model b.layout.longest size
-      it = fit g.model b.layout key_length b.layout.longest b.bytes size has.some has.fixed
-          (ap (λ (c : Cut). block_fault_of g.model b.layout key_length c b.bytes) (sym has.cut) ∙ fits)
+      it = fit g.model b.layout key_length b.layout.longest b.bytes size has.some has.fixed (cc)
 
       abbrev count : ℕ
       count = b.layout.longest / size
@@ -97,8 +92,7 @@ module _ (g : Geometry) (b : FileBlocks) (key_length : ℕ) (fits : block_fault_
 
       pub lines_read : (most : ℕ) → tracks ≤ most
           → source_written (wanted (Text b.layout) extents first_block most) g slots ≡ ended_by_file (printed text) (tracks - 1)
-      lines_read most enough =
-          subst
+      lines_read most enough = subst
           (λ (l : Layout). source_written (wanted (Text l) extents first_block most) g slots ≡ ended_by_file (printed text) (tracks - 1))
           layout_is
           (is_printed g extents slots size count text tracks most

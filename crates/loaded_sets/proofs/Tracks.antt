@@ -1,6 +1,6 @@
 -- Areas that are put onto tracks one after another.
-use Rattle.std.proofs.Common.{◌≡◌, ◌≢◌, ◌∙◌, ap, sym, refl, ℕ, suc, ◌+◌, ◌<◌, ◌≤◌, ◌⊎◌, inl, inr, List, [], length, drop}
-use Rattle.std.proofs.Common.{slice_set, arith, add-one, drop-drop}
+use Rattle.std.proofs.Common.{◌≡◌, ◌≢◌, ◌∙◌, refl, ℕ, suc, ◌+◌, ◌<◌, ◌≤◌, ◌⊎◌, inl, inr, List, [], length, drop, slice_set, arith}
+use Rattle.std.proofs.Common.{add-one, drop-drop}
 use Rattle.std.proofs.lemmas.Bool.{cases_lt}
 use Rattle.std.proofs.lemmas.List.{get_or-set_same, get_or-set_other, length-set}
 use Rattle.ckd_track.specs.declared.model.DriveModel.{DriveModel}
@@ -22,16 +22,10 @@ one_behind model areas n = refl
 -- what is left behind one track more
 pub one_more : (model : DriveModel) (areas : List Areas) (next i fit : ℕ) → drop next areas ≡ left_behind model areas i
     → fit ≡ fitting_on model (drop next areas) → drop (next + fit) areas ≡ left_behind model areas (i + 1)
-one_more model areas next i fit is as_many =
-    sym (drop-drop fit next areas) ∙ ap (λ (n : ℕ). drop n (drop next areas)) as_many ∙ ap (behind_track model) is
-    ∙ sym (one_behind model areas i) ∙ ap (left_behind model areas) (sym (add-one i))
+one_more model areas next i fit is as_many = cc (drop-drop fit next areas, one_behind model areas i, add-one i)
 
 pub begun : (g : Geometry) (areas : List Areas) (first : ℕ) (slots : List (List ℕ)) → HasAreas g areas first 0 slots slots
-begun g areas first slots = record {
-  within = λ i there. absurd (omega (arith, there));
-  outside = λ n out. refl;
-  same = refl;
-}
+begun g areas first slots = record { within = λ i there. absurd (omega (arith, there)); outside = λ n out. refl; same = refl }
 
 -- one track more has what goes on it
 pub goes_on : (g : Geometry) (areas : List Areas) (first i : ℕ) (before between : List (List ℕ)) (slot : List ℕ)
@@ -45,11 +39,8 @@ goes_on g areas first i before between slot holds is there = record {
   where
     by : (k : ℕ) → k < i + 1 → (k < i) ⊎ (i ≤ k)
         → slot_at (slice_set between (first + i) slot) (first + k) ≡ loaded_slot g (first + k) (left_behind g.model areas k)
-    by k near (inl less) =
-        get_or-set_other between (first + i) (first + k) slot [] (λ e. absurd (omega (arith, e, less))) ∙ holds.within k less
-    by k near (inr here) =
-        let e : k ≡ i = omega (arith, near, here) in
-        rw e (get_or-set_same between (first + i) slot [] there ∙ is)
+    by k near (inl less) = get_or-set_other between (first + i) (first + k) slot [] (λ e. absurd (omega arith)) ∙ holds.within k less
+    by k near (inr here) = let e : k ≡ i = omega arith in rw e (get_or-set_same between (first + i) slot [] there ∙ is)
 
     other : (n : ℕ) → (n < first) ⊎ (first + (i + 1) ≤ n) → n ≢ first + i
     other n (inl low) e = omega (arith, e, low)

@@ -1,11 +1,12 @@
 use Rattle.std.proofs.Common.{◌≡◌, subst, [], rules}
+use Rattle.std.proofs.lemmas.Result.{IfOk-weaker, IfErr-weaker}
 use Rattle.ckd_track.specs.declared.geometries.Geometry.{Geometry}
 use Rattle.volume_contents.specs.Contents.{Said, contents_of}
 use Rattle.volume_changes.specs.Volumes.{said_in}
 use Rattle.loaded_sets.specs.Volumes.{labelled, SaysOf, IsUnfit, all_findings}
 use Rattle.loaded_sets.specs.Loaded.{Loaded, IsNotLoaded}
 use Rattle.loaded_sets.specs.Parts.{IsPut, IsNotPut}
-use Rattle.loaded_sets.proofs.Fits.{same_said, loaded, not_put, unfit, if_ok, if_err}
+use Rattle.loaded_sets.proofs.Fits.{same_said, loaded, not_put, unfit}
 use Rattle.loaded_sets.proofs.images.load_image.Goals as goal
 
 pub returns : goal.returns
@@ -24,9 +25,9 @@ returns c =
     (subst (λ (h : Geometry). all_findings h (said_in read) ≡ []) is c.in-Ok-judge.ensures.nothing) in
     record {
       same = c.put_set.ensures.same;
-      loaded = if_ok c.put_set.result (λ n. IsPut v set before n now) (λ n. Loaded set g before n now)
+      loaded = IfOk-weaker c.put_set.result (λ n. IsPut v set before n now) (λ n. Loaded set g before n now)
           (λ n. loaded g before v says nothing set n now) c.put_set.ensures.put;
-      fault = if_err c.put_set.result (λ f. IsNotPut f v set before) (λ f. IsNotLoaded f set g before) (not_put g before v says nothing set)
+      fault = IfErr-weaker c.put_set.result (λ f. IsNotPut f v set before) (λ f. IsNotLoaded f set g before) (not_put g before v says nothing set)
           c.put_set.ensures.fault;
     }
 

@@ -14,8 +14,7 @@ place_records-requires-clause-set c =
     (ap (λ (n : ℕ). n - 1) (c.len.ensures ∙ sym c.as_slice.ensures.len))
 
 pub returns-in-Ok-place_records-clause-set : goal.returns-in-Ok-place_records-clause-set
-returns-in-Ok-place_records-clause-set c =
-    set_is (labelled c.args.volume.now) c.args.set.now (file_blocks c.args.file) _
+returns-in-Ok-place_records-clause-set c = set_is (labelled c.args.volume.now) c.args.set.now (file_blocks c.args.file) _
     (set_of c.args.set.now (file_blocks c.args.file) _ refl c.label_of.ensures
     (ap all_areas c.as_slice.ensures.value ∙ c.in-Ok.ensures.records) (ap (λ (n : ℕ). n - 1) (c.len.ensures ∙ sym c.as_slice.ensures.len)))
     c.args.image.now.slots c.requires.fits c.in-Ok-place_records.tracks

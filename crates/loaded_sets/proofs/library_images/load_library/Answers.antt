@@ -1,9 +1,10 @@
 use Rattle.std.proofs.Common.{◌≡◌, subst, [], rules}
+use Rattle.std.proofs.lemmas.Result.{IfOk-weaker, IfErr-weaker}
 use Rattle.ckd_track.specs.declared.geometries.Geometry.{Geometry}
 use Rattle.volume_contents.specs.Contents.{Said, contents_of}
 use Rattle.volume_changes.specs.Volumes.{said_in}
 use Rattle.loaded_sets.specs.Volumes.{labelled, SaysOf, IsUnfit, all_findings}
-use Rattle.loaded_sets.proofs.Fits.{same_said, if_ok, if_err}
+use Rattle.loaded_sets.proofs.Fits.{same_said}
 use Rattle.loaded_sets.specs.LoadedLibraries.{Loaded, IsNotLoaded}
 use Rattle.loaded_sets.specs.LibraryParts.{IsPut, IsNotPut}
 use Rattle.loaded_sets.proofs.LibraryFits.{loaded, not_loaded, unfit}
@@ -25,9 +26,9 @@ returns c =
     (subst (λ (h : Geometry). all_findings h (said_in read) ≡ []) is c.in-Ok-judge.ensures.nothing) in
     record {
       same = c.put_library.ensures.same;
-      loaded = if_ok c.put_library.result (λ n. IsPut v library before n now) (λ n. Loaded library g before n now)
+      loaded = IfOk-weaker c.put_library.result (λ n. IsPut v library before n now) (λ n. Loaded library g before n now)
           (λ n. loaded g before v says nothing library n now) c.put_library.ensures.put;
-      fault = if_err c.put_library.result (λ f. IsNotPut f v library before) (λ f. IsNotLoaded f library g before)
+      fault = IfErr-weaker c.put_library.result (λ f. IsNotPut f v library before) (λ f. IsNotLoaded f library g before)
           (not_loaded g before v says nothing library) c.put_library.ensures.fault;
     }
 

@@ -12,8 +12,7 @@ returns-in-Blocks c =
     let l = c.in-Ok.layout in
     let files : List (List ℕ) = map (λ (m : Bor (List ℕ)). m.now) library.members.now in
     let b = member_blocks (record { layout = l; cut = c.cut_in-cut.result; members = library.members }) in
-    let by : members_by library.source l files ≡ Ok b.members = as_they_are library.source l files c.in-Blocks.is in
-    record {
+    let by : members_by library.source l files ≡ Ok b.members = as_they_are library.source l files c.in-Blocks.is in record {
       same = c.put_blocks.ensures.same;
       put = put v library c.requires.free l (sym c.in-Ok.ensures) b refl c.cut_in-cut.ensures.cut by c.args.image.now.slots
           c.put_blocks.new.image.slots c.put_blocks.result c.put_blocks.ensures.set;

@@ -25,8 +25,7 @@ loop-number-preserved c =
     let there = c.loop-number-test.true in
     let make = fitting m.model m.layout m.key_length cut in
     let files : List (List ℕ) = map (λ (f : Bor (List ℕ)). f.now) c.args.members.now in
-    let longer = one_longer make c.args.members.now k _ there in
-    record {
+    let longer = one_longer make c.args.members.now k _ there in record {
       fit = subst (λ (made : List (List ℕ)). each_made make 1 files ≡ behind made (each_made make (k + 1 + 1) (drop (k + 1) files)))
           (sym longer)
           (next_made make c.args.members.now k _ there (each_made make 1 files) _ _ c.loop-number.invariant.fit c.in-Ok.ensures.fits);
@@ -42,15 +41,12 @@ returns-clause-fit c =
     let m = c.args.measure in
     let make = fitting m.model m.layout m.key_length c.args.cut in
     let files : List (List ℕ) = map (λ (f : Bor (List ℕ)). f.now) c.args.members.now in
-    let past : length files ≤ c.loop-number.number =
-    omega (arith, c.loop-number-test.false, length-map c.args.members.now (λ (f : Bor (List ℕ)). f.now)) in
-    c.loop-number.invariant.fit
-    ∙ all_made make files (c.loop-number.number + 1) _ c.loop-number.number past
+    let past : length files ≤ c.loop-number.number = omega (arith, length-map c.args.members.now (λ (f : Bor (List ℕ)). f.now)) in
+    c.loop-number.invariant.fit ∙ all_made make files (c.loop-number.number + 1) _ c.loop-number.number past
     ∙ ap Ok (take_all c.loop-number.number files past)
 
 pub returns-clause-each : goal.returns-clause-each
 returns-clause-each c =
     let files : List (List ℕ) = map (λ (f : Bor (List ℕ)). f.now) c.args.members.now in
-    let past : length files ≤ c.loop-number.number =
-    omega (arith, c.loop-number-test.false, length-map c.args.members.now (λ (f : Bor (List ℕ)). f.now)) in
+    let past : length files ≤ c.loop-number.number = omega (arith, length-map c.args.members.now (λ (f : Bor (List ℕ)). f.now)) in
     subst (All (HasBlocks c.args.measure.model c.args.cut)) (take_all c.loop-number.number files past) c.loop-number.invariant.each

@@ -10,8 +10,7 @@ use Rattle.loaded_sets.proofs.members.all_records.Given as goal
 abbrev pub invariant-loop-number : goal.invariant-loop-number
 invariant-loop-number l =
     let files = map (λ f. f.now) l.members in
-    let make = fitting l.measure.model l.measure.layout l.measure.key_length l.cut in
-    record {
+    let make = fitting l.measure.model l.measure.layout l.measure.key_length l.cut in record {
       fit : each_made make 1 files ≡ behind (take l.number files) (each_made make (l.number + 1) (drop l.number files));
       areas : map (λ r. all_areas r.items) l.all.items ≡ map (block_areas l.cut) (take l.number files);
       each : All (HasBlocks l.measure.model l.cut) (take l.number files);

@@ -26,6 +26,5 @@ loop-number-preserved c =
 pub returns-clause-made : goal.returns-clause-made
 returns-clause-made c =
     let files : List (List ℕ) = map (λ (f : Bor (List ℕ)). f.now) c.args.files.now in
-    let past : length files ≤ c.loop-number.number =
-    omega (arith, c.loop-number-test.false, length-map c.args.files.now (λ (f : Bor (List ℕ)). f.now)) in
+    let past : length files ≤ c.loop-number.number = omega (arith, length-map c.args.files.now (λ (f : Bor (List ℕ)). f.now)) in
     c.loop-number.invariant ∙ all_made (text_bytes c.args.layout) files (c.loop-number.number + 1) _ c.loop-number.number past

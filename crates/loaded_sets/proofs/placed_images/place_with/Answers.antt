@@ -45,8 +45,7 @@ returns-in_err-address c =
     c.in_ok-placed.ensures.kept c.in_err-address.ensures.fault in
     let why = unlisted v c.args.set.now c.args.image.now.slots p.run.first p.run.tracks placed.gets p.changes.items placed.taken
     c.in_err-address.field-0.0 unlisted_here in
-    let same = c.in_ok-placed.ensures.same in
-    search rules
+    let same = c.in_ok-placed.ensures.same in search rules
 
 pub returns-clause-fault : goal.returns-clause-fault
 returns-clause-fault c =

@@ -17,8 +17,7 @@ returns c =
     let before = c.args.image.now.slots in
     let now = c.write_tracks.new.image.slots in
     let first = p.run.first in
-    let tracks = p.run.tracks in
-    record {
+    let tracks = p.run.tracks in record {
       same = record {
         geometry = c.in_ok-write_tracks.ensures.same.geometry ∙ c.in_ok-address.ensures.same.geometry;
         lasting = c.in_ok-write_tracks.ensures.same.lasting ∙ c.in_ok-address.ensures.same.lasting;

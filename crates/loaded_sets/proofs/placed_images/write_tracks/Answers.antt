@@ -8,8 +8,7 @@ use Rattle.loaded_sets.proofs.placed_images.write_tracks.Goals as goal
 pub loop-i-init : goal.loop-i-init
 loop-i-init c =
     let g = c.args.image.now.geometry in
-    let all = all_areas c.args.records.now in
-    record {
+    let all = all_areas c.args.records.now in record {
       same = record { geometry = refl; lasting = refl };
       size = c.requires.size;
       next = omega arith;
@@ -26,8 +25,7 @@ loop-i-preserved c =
     let was = c.loop-i.invariant in
     let now = c.in_ok-next.ensures in
     let slots = rw was.same.geometry at now.slots in
-    let next = rw was.same.geometry at now.next in
-    record {
+    let next = rw was.same.geometry at now.next in record {
       same = record { geometry = now.same.geometry ∙ was.same.geometry; lasting = now.same.lasting ∙ was.same.lasting };
       size = now.size ∙ was.size;
       next = now.within;

@@ -5,8 +5,7 @@ use Rattle.loaded_sets.proofs.placing.put_named.Goals as goal
 
 pub place_records-requires-clause-set : goal.place_records-requires-clause-set
 place_records-requires-clause-set c =
-    let model = c.args.volume.now.geometry.model in
-    can_be model _ c.as_slice.result.now c.args.named.now.library.members.now
+    let model = c.args.volume.now.geometry.model in can_be model _ c.as_slice.result.now c.args.named.now.library.members.now
     (ap all_areas c.as_slice-2.ensures.value ∙ c.in-Ok-library_records.ensures.records)
     (subst (All (RecordGoesOn model)) (sym c.as_slice-2.ensures.value)
     (c.in-Ok-library_records.ensures.fit model c.requires.members))

@@ -26,5 +26,4 @@ returns-in_err-changes c =
     c.in_ok-run.ensures.tracks c.in_err-changes.field-0.0 c.in_err-changes.ensures.fault in
     let same = c.in_ok-run.ensures.same in
     let kept = c.in_ok-run.ensures.kept in
-    let size = c.in_ok-run.ensures.size in
-    search rules
+    let size = c.in_ok-run.ensures.size in search rules

@@ -16,8 +16,7 @@ returns-in-Some-clause-tracks c =
     let g = c.args.volume.now.geometry in
     let all = c.as_slice.ensures.value ∙ c.in_ok-extents.ensures.extents in
     let marks = c.as_slice-2.ensures.value ∙ c.in_ok-marks.ensures.marks in
-    let both = both_are all marks in
-    record {
+    let both = both_are all marks in record {
       room = c.tracks_for-asked.ensures;
       few = omega arith;
       free = subst (λ (x : Space). IsFirstRun g x c.tracks_for-asked.result (Some c.in-Some.first)) both c.in-Some.ensures.first;

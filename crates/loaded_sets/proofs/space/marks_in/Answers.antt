@@ -1,5 +1,4 @@
-use Rattle.std.proofs.Common.{◌∙◌, ap, sym, ℕ, List, ◌∷◌, [], ◌++◌, length, length-append, arith}
-use Rattle.dasd_volumes.specs.Volumes.{of_each}
+use Rattle.std.proofs.Common.{◌∙◌, ap, ℕ, List, ◌∷◌, [], length, length-append, arith}
 use Rattle.dasd_volumes.proofs.Appended.{of_one_more}
 use Rattle.loaded_sets.specs.Space.{mark_in}
 use Rattle.loaded_sets.proofs.space.marks_in.Goals as goal
@@ -11,13 +10,10 @@ loop-track-preserved c =
     let track = c.loop-track.track in
     let was = c.loop-track.invariant in
     let now = c.in_ok-mark.ensures in
-    let more = c.in_ok-push.ensures.marks in
-    record {
+    let more = c.in_ok-push.ensures.marks in record {
       same = record { geometry = now.same.geometry ∙ was.same.geometry; lasting = now.same.lasting ∙ was.same.lasting };
       kept = now.kept ∙ was.kept;
       size = now.size ∙ was.size;
-      marks = more ∙ ap (λ (l : List ℕ). l ++ c.in_ok-mark.mark ∷ []) was.marks
-          ∙ ap (λ (mark : ℕ). of_each of track ++ mark ∷ [])
-          (now.mark ∙ ap (λ (s : List (List ℕ)). mark_in c.args.marks.now s track) was.kept) ∙ sym (of_one_more of track);
-      all = ap length more ∙ length-append c.loop-track.all.items (c.in_ok-mark.mark ∷ []) ∙ omega (arith, was.all);
+      marks = cc (of_one_more of track);
+      all = ap length more ∙ length-append c.loop-track.all.items (c.in_ok-mark.mark ∷ []) ∙ omega arith;
     }

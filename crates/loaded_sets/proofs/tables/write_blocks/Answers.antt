@@ -18,8 +18,7 @@ loop-change-preserved c =
     let now = c.in_ok-write_on_table.ensures in
     let others = rw was.same.geometry at now.others in
     let slots = rw was.same.geometry at now.slots in
-    let one : List (List ℕ) → BlockChange → List (List ℕ) = λ some x. changed c.args.image.now.geometry x some in
-    record {
+    let one : List (List ℕ) → BlockChange → List (List ℕ) = λ some x. changed c.args.image.now.geometry x some in record {
       same = record { geometry = now.same.geometry ∙ was.same.geometry; lasting = now.same.lasting ∙ was.same.lasting };
       slots = more_changed one c.loop-change.image.slots c.write_on_table.new.image.slots c.args.image.now.slots c.args.changes.now
           c.loop-change.change-index no_change c.loop-change-test.true slots was.slots;
@@ -36,5 +35,4 @@ returns-in_err-write_on_table c =
     let left = subst (λ (g : Geometry). IsLeftOut f g c.args.extent (Some (change_in changes i))) was.same.geometry
     c.in_err-write_on_table.ensures.fault in
     let why = one_left_out f c.args.image.now.geometry c.args.extent changes i c.loop-change-test.true left in
-    let same = was.same in
-    search rules
+    let same = was.same in search rules
