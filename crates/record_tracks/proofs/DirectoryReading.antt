@@ -77,12 +77,7 @@ module _ (left : List (List ℕ)) (short : All IsShort left) (some : 1 ≤ lengt
 
     pub has_block : HasBlock standing k used
     has_block = record {
-      there = omega (
-        arith,
-        length-append front (drop 8 (block_of left) ++ rest),
-        length-append (drop 8 (block_of left)) rest,
-        length-data,
-      );
+      there = omega (arith, length-append front (drop 8 (block_of left) ++ rest), length-append (drop 8 (block_of left)) rest, length-data);
       number = (let none : 256 * k ≡ 256 * k + 0 = omega arith in
           let high : slice_index standing (256 * k) ≡ used / 256 = rw none (number_byte 0) in
           let low = number_byte 1 in omega arith);
@@ -119,8 +114,7 @@ module _ (bytes : List ℕ) (k used : ℕ) (has : HasBlock bytes k used) where
         enters bytes k used at has (omega arith) (omega arith) (omega arith) (omega arith),
         entry_stands p one front (bytes_of ps ++ rest) at is_at (256 * k + used) (omega arith),
       ) in
-      let far : next + length (bytes_of ps) ≡ at + length (bytes_of (p ∷ ps)) = omega arith in
-      cc (
+      let far : next + length (bytes_of ps) ≡ at + length (bytes_of (p ∷ ps)) = omega arith in cc (
         one_step bytes (length ps + most) at,
         through ps (front ++ entry_bytes p) rest next most (All-tail IsEntry p ps each) (omega (arith, length-append front (entry_bytes p)))
             (here ∙ sym (append_assoc front (entry_bytes p) (bytes_of ps ++ rest))) (omega arith) (omega arith),
@@ -177,12 +171,9 @@ more_entries (x ∷ xs) ys = ap (and_more (entry_read x)) (more_entries xs ys)
 -- each entry takes 12 bytes at least
 many_bytes : (ps : List EntryContents) → All IsEntry ps → 12 * length ps ≤ length (bytes_of ps)
 many_bytes [] each = omega arith
-many_bytes (p ∷ ps) each = omega (
-  arith,
-  length-entry p (All-head IsEntry p ps each),
-  length-append (entry_bytes p) (bytes_of ps),
-  many_bytes ps (All-tail IsEntry p ps each),
-)
+many_bytes (p ∷ ps) each =
+    let others = many_bytes ps (All-tail IsEntry p ps each) in
+    omega (arith, length-entry p (All-head IsEntry p ps each), length-append (entry_bytes p) (bytes_of ps))
 
 -- One block, and those behind it.
 module _ (n : ℕ) (later : Reads n) (k : ℕ) (es : List EntryContents) (front behind : List ℕ) (most : ℕ) (each : All IsEntry es)

@@ -146,10 +146,6 @@ pub left_shrinks : (model : DriveModel) (areas : List Areas) (i d : ℕ)
 left_shrinks model areas i zero = let e : i + 0 ≡ i = omega arith in omega (arith, ap (λ (j : ℕ). length (left_behind model areas j)) e)
 left_shrinks model areas i (suc d) =
     let e : i + suc d ≡ suc (i + d) = omega arith in
-    let left = left_behind model areas (i + d) in omega (
-      arith,
-      ap (λ (j : ℕ). length (left_behind model areas j)) e,
-      ap length (one_behind model areas (i + d)),
-      length-drop (fitting_on model left) left,
-      left_shrinks model areas i d,
-    )
+    let left = left_behind model areas (i + d) in
+    let two = ap (λ (j : ℕ). length (left_behind model areas j)) e in
+    omega (arith, ap length (one_behind model areas (i + d)), length-drop (fitting_on model left) left, left_shrinks model areas i d)

@@ -45,8 +45,7 @@ pub is_table : (table : List (Option ℕ)) (n : ℕ) → table ≡ tabled n → 
 unfolding places
 is_table table n is most least c below =
     let all : n ≡ 256 = omega arith in
-    let long = length-range_with_len 0 256 in
-    rw (
+    let long = length-range_with_len 0 256 in rw (
       is,
       all,
       whole,

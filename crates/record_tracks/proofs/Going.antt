@@ -123,12 +123,8 @@ pub concat_fewer : (k n : ℕ) (left : List (List ℕ)) → k ≤ n → length (
 concat_fewer zero n left within = omega arith
 concat_fewer (suc k) zero left within = absurd (omega (arith, within))
 concat_fewer (suc k) (suc n) [] within = omega arith
-concat_fewer (suc k) (suc n) (e ∷ others) within = omega (
-  arith,
-  length-append e (concat (take k others)),
-  length-append e (concat (take n others)),
-  concat_fewer k n others (omega arith),
-)
+concat_fewer (suc k) (suc n) (e ∷ others) within =
+    omega (arith, length-append e (concat (take k others)), length-append e (concat (take n others)), concat_fewer k n others (omega arith))
 
 -- one entry more uses its bytes
 pub more_used : (left : List (List ℕ)) (k : ℕ) → k < length left

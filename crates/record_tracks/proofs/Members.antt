@@ -3,8 +3,7 @@ use Rattle.std.proofs.Common.{◌≡◌, ◌∙◌, ap, sym, refl, subst, ℕ, �
 use Rattle.std.proofs.Common.{cond, nat_lt, map, take, drop, get_or, replicate, arith, All, append_assoc, length-append, length-take}
 use Rattle.std.proofs.Common.{length-drop, inl, inr, ◌-◌, nat_le, None, Some}
 use Rattle.std.proofs.lemmas.Grind.{flat_map-append}
-use Rattle.std.proofs.lemmas.List.{drop_more, take-append-drop, length-map, get_or-map, map-append, ext_get_or, length-replicate}
-use Rattle.std.proofs.lemmas.List.{get_or-replicate}
+use Rattle.std.proofs.lemmas.List.{drop_more, take-append-drop, get_or-map, map-append, length-replicate}
 use Rattle.std.proofs.lemmas.List.FromFn.{length-map-range_with_len, get_or-map-range_with_len}
 use Rattle.std.proofs.lemmas.List.Elements.{All-nil, All-cons, All-head, All-tail, All-append, All-from_get_or}
 use Rattle.ckd_track.specs.declared.model.DriveModel.{DriveModel}
@@ -45,12 +44,7 @@ module _ (directory : List ℕ) where
       (omega (arith, length-directory)) (omega arith)
 
   block_size : (k : ℕ) → k < length (directory_areas directory) → length (take 264 (drop (k * 264) directory)) ≡ 264
-  block_size k there = omega (
-    arith,
-    length-directory,
-    length-take 264 (drop (k * 264) directory),
-    length-drop (k * 264) directory,
-  )
+  block_size k there = omega (arith, length-directory, length-take 264 (drop (k * 264) directory), length-drop (k * 264) directory)
 
   pub directory_written : All (IsWritten form.Directory) (directory_areas directory)
   directory_written = All-from_get_or (IsWritten form.Directory) (directory_areas directory) end_of_file (λ k there.
@@ -64,27 +58,21 @@ at_most false n = omega arith
 
 -- A record goes on a track of either drive, if its lengths are no more than these.
 small_goes : (model : DriveModel) (a : Areas) → length a.key_area ≤ 8 → length a.data_area ≤ 256 → GoesOn model a
-small_goes D2311 a key few = record {
-  key = omega arith;
-  most = (let extra : key_overhead_of D2311 (length a.key_area) ≤ 20 = at_most (nat_lt 0 (length a.key_area)) 20 in
-      omega arith);
-}
-small_goes D2314 a key few = record {
-  key = omega arith;
-  most = (let extra : key_overhead_of D2314 (length a.key_area) ≤ 45 = at_most (nat_lt 0 (length a.key_area)) 45 in
-      omega arith);
-}
+small_goes D2311 a key few =
+    let extra : key_overhead_of D2311 (length a.key_area) ≤ 20 = at_most (nat_lt 0 (length a.key_area)) 20 in
+    record { key = omega arith; most = omega arith }
+small_goes D2314 a key few =
+    let extra : key_overhead_of D2314 (length a.key_area) ≤ 45 = at_most (nat_lt 0 (length a.key_area)) 45 in
+    record { key = omega arith; most = omega arith }
 
 with_end_goes : (model : DriveModel) (part : List Areas) → All (GoesOn model) part → All (GoesOn model) (with_end part)
 with_end_goes model part each = All-append (GoesOn model) part (end_of_file ∷ []) each
     (All-cons (GoesOn model) end_of_file [] (end_goes model) (All-nil (GoesOn model)))
 
 directory_goes : (model : DriveModel) (directory : List ℕ) → All (GoesOn model) (directory_areas directory)
-directory_goes model directory = All-from_get_or (GoesOn model) (directory_areas directory) end_of_file (λ k there.
-    subst (GoesOn model) (sym (block_is directory k there)) (
-    let b = take 264 (drop (k * 264) directory) in
-    let size = block_size directory k there in
-    small_goes model (directory_area directory k) (omega (arith, length-take 8 b)) (omega (arith, length-drop 8 b))))
+directory_goes model directory k d there =
+    let is = directory_written directory k d there in
+    small_goes model (get_or (directory_areas directory) k d) (omega (arith, is.0)) (omega (arith, is.1))
 
 members_go : (model : DriveModel) (members : List NewMember) → All (MemberGoesOn model) members → All (GoesOn model) (members_areas members)
 members_go model [] each = All-nil (GoesOn model)
@@ -145,70 +133,31 @@ module _ (directory : List ℕ) (members : List NewMember) (m : ℕ) (there : m 
           append_assoc (with_end (directory_areas directory)) (members_areas (take m members)) (blocks ++ rest),
           append_assoc head (take k blocks) (drop k blocks ++ rest),
         );
-        number = omega (
-          arith,
-          length-append head (take k blocks),
-          length-append (with_end (directory_areas directory)) (members_areas (take m members)),
-          length-append (directory_areas directory) (end_of_file ∷ []),
-          length-directory directory,
-          length-take k blocks,
-        );
+        number = omega (arith, length-append {A = Areas}, length-directory directory, length-take k blocks);
       }
 
 -- Directories of one length have blocks of the same lengths.
-key_lengths : (directory : List ℕ) → map (λ a. length a.key_area) (directory_areas directory) ≡ replicate (length directory / 264) 8
-key_lengths directory =
-    let key : Areas → ℕ = λ a. length a.key_area in
-    let all = directory_areas directory in
-    let size = length-map all key ∙ length-directory directory in ext_get_or 0 (map key all) (replicate (length directory / 264) 8)
-    (size ∙ sym (length-replicate (length directory / 264) 8))
-    (λ k there.
-    let here : k < length all = omega (arith, length-map all key) in
-    let b = take 264 (drop (k * 264) directory) in
-    let eight : length (take 8 b) ≡ 8 = omega (arith, block_size directory k here, length-take 8 b) in
-    get_or-map key all k end_of_file 0 here ∙ ap key (block_is directory k here) ∙ eight
-    ∙ sym (get_or-replicate (length directory / 264) k 8 0 (omega (arith, length-directory directory))))
-
-data_lengths : (directory : List ℕ) → map (λ a. length a.data_area) (directory_areas directory) ≡ replicate (length directory / 264) 256
-data_lengths directory =
-    let bytes : Areas → ℕ = λ a. length a.data_area in
-    let all = directory_areas directory in
-    let size = length-map all bytes ∙ length-directory directory in ext_get_or 0 (map bytes all) (replicate (length directory / 264) 256)
-    (size ∙ sym (length-replicate (length directory / 264) 256))
-    (λ k there.
-    let here : k < length all = omega (arith, length-map all bytes) in
-    let b = take 264 (drop (k * 264) directory) in
-    let rest : length (drop 8 b) ≡ 256 = omega (arith, block_size directory k here, length-drop 8 b) in
-    get_or-map bytes all k end_of_file 0 here ∙ ap bytes (block_is directory k here) ∙ rest
-    ∙ sym (get_or-replicate (length directory / 264) k 256 0 (omega (arith, length-directory directory))))
-
--- what stands behind has the same lengths
-behind_same : (f : Areas → ℕ) (xs ys zs : List Areas) → map f xs ≡ map f ys → map f (xs ++ zs) ≡ map f (ys ++ zs)
-behind_same f xs ys zs same = cc (map-append f xs zs, map-append f ys zs)
+alike : (f : Areas → ℕ) (n : ℕ) (areas : List Areas) → All (λ a. f a ≡ n) areas → map f areas ≡ replicate (length areas) n
+alike f n [] are = refl
+alike f n (a ∷ others) are =
+    cc (All-head (λ (b : Areas). f b ≡ n) a others are, alike f n others (All-tail (λ (b : Areas). f b ≡ n) a others are))
 
 pub same_library : (one other : List ℕ) (members : List NewMember) → length one ≡ length other
     → SameLengths (library_areas one members) (library_areas other members)
-same_library one other members same =
-    let key : Areas → ℕ = λ a. length a.key_area in
-    let bytes : Areas → ℕ = λ a. length a.data_area in
-    let ends = end_of_file ∷ [] in
-    let all = members_areas members in record {
-      keys = behind_same key (with_end (directory_areas one)) (with_end (directory_areas other)) all
-          (behind_same key (directory_areas one) (directory_areas other) ends
-          (cc (key_lengths one, key_lengths other)));
-      bytes = behind_same bytes (with_end (directory_areas one)) (with_end (directory_areas other)) all
-          (behind_same bytes (directory_areas one) (directory_areas other) ends
-          (cc (data_lengths one, data_lengths other)));
-    }
+same_library one other members same = record {
+  keys = like (λ a. length a.key_area) 8 (λ d k e there. (directory_written d k e there).0);
+  bytes = like (λ a. length a.data_area) 256 (λ d k e there. (directory_written d k e there).1);
+}
+  where
+    like : (f : Areas → ℕ) (n : ℕ) → ((d : List ℕ) → All (λ a. f a ≡ n) (directory_areas d))
+        → map f (library_areas one members) ≡ map f (library_areas other members)
+    like f n are =
+        let here = alike f n (directory_areas one) (are one) in
+        let there = alike f n (directory_areas other) (are other) in simp map-append (cc (length-directory one, length-directory other))
 
 -- behind a part there is one record at least, which is its end of file
 pub end_there : (areas part : List Areas) (first : ℕ) → IsPart areas part first → first + length part < length areas
-end_there areas part first is = omega (
-  arith,
-  ap length is.all,
-  length-append is.before (part ++ (end_of_file ∷ is.behind)),
-  length-append part (end_of_file ∷ is.behind),
-)
+end_there areas part first is = omega (arith, ap length is.all, length-append {A = Areas}, is.number)
 
 module _ (model : DriveModel) (directory : List ℕ) (members : List NewMember) (goes : All (MemberGoesOn model) members) where
   abbrev areas : List Areas
@@ -256,13 +205,7 @@ pub length-blank : (l : NewLibrary) → length (blank_directory l) / 264 ≡ l.d
 length-blank l = omega (arith, length-replicate {A = ℕ} (l.directory_blocks * 264) 0)
 
 pub length-blank_areas : (l : NewLibrary) → length (blank_areas l) ≡ l.directory_blocks + 1 + length (members_areas l.members.now)
-length-blank_areas l = let directory = blank_directory l in omega (
-  arith,
-  length-append (with_end (directory_areas directory)) (members_areas l.members.now),
-  length-append (directory_areas directory) (end_of_file ∷ []),
-  length-directory directory,
-  length-blank l,
-)
+length-blank_areas l = omega (arith, length-append {A = Areas}, length-directory (blank_directory l), length-blank l)
 
 -- the members before one, and those from it on
 pub length-parts : (members : List NewMember) (m : ℕ)
@@ -278,12 +221,8 @@ pub length-next : (members : List NewMember) (k : ℕ) (d : NewMember) → k < l
 length-next members k d there =
     let m = get_or members k d in
     let others = members_areas (drop (k + 1) members) in
-    ap (λ (xs : List NewMember). length (members_areas xs)) (drop_more members k d there) ∙ omega (
-      arith,
-      length-append (with_end (member_areas m)) others,
-      length-append (member_areas m) (end_of_file ∷ []),
-      length-all m.records.now,
-    )
+    ap (λ (xs : List NewMember). length (members_areas xs)) (drop_more members k d there)
+    ∙ omega (arith, length-append (with_end (member_areas m)) others, length-append {A = Areas}, length-all m.records.now)
 
 -- a member has its blocks, and an end of file behind them
 pub length-first : (members : List NewMember) (m : ℕ) → m < length members
@@ -302,11 +241,9 @@ pub block_there : (l : NewLibrary) (m k : ℕ) → m < length l.members.now → 
     → first_record l.directory_blocks l.members.now m + k < length (blank_areas l)
 block_there l m k there within =
     let first = first_record (length (blank_directory l) / 264) l.members.now m in
-    let blocks = blocks_of_member l.members.now m in omega (
-      arith,
-      end_there (blank_areas l) (drop k blocks) (first + k) (member_part (blank_directory l) l.members.now m there k within),
-      length-blank l,
-    )
+    let blocks = blocks_of_member l.members.now m in
+    let two = end_there (blank_areas l) (drop k blocks) (first + k) (member_part (blank_directory l) l.members.now m there k within) in
+    omega (arith, length-blank l)
 
 pub too_far : (n : ℕ) (f : LibraryFault) → 65536 ≤ n → Some f ≡ cond (nat_le 65536 n) (Some f) None
 too_far n f far = let is : nat_le 65536 n ≡ true = grind (arith, nat_tests) in rw is refl
@@ -316,11 +253,7 @@ near n f below = let is : nat_le 65536 n ≡ false = grind (arith, nat_tests) in
 
 -- no address is too far, if that of the last record is not
 not_too_far : (n : ℕ) (f : LibraryFault) → cond (nat_le 65536 n) (Some f) None ≡ None → n < 65536
-not_too_far n f none = by (nat_le 65536 n) refl none
-  where
-    by : (b : Bool) → nat_le 65536 n ≡ b → cond b (Some f) None ≡ None → n < 65536
-    by true is h = absurd (cc)
-    by false is h = grind (arith, nat_tests)
+not_too_far n f none = grind (arith, nat_tests)
 
 module _ (p : Placed) (are : AreRecords p) where
   abbrev l : NewLibrary

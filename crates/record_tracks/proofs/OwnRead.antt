@@ -44,12 +44,8 @@ area_in b = record { key_area = take 8 b; data_area = drop 8 b }
 
 length-whole : (bs : List (List ℕ)) → All IsWhole bs → length (concat bs) ≡ length bs * 264
 length-whole [] each = refl
-length-whole (b ∷ bs) each = omega (
-  arith,
-  length-append b (concat bs),
-  All-head IsWhole b bs each,
-  length-whole bs (All-tail IsWhole b bs each),
-)
+length-whole (b ∷ bs) each =
+    omega (arith, length-append b (concat bs), All-head IsWhole b bs each, length-whole bs (All-tail IsWhole b bs each))
 
 -- blocks one behind another are cut into these blocks
 cut_again : (bs : List (List ℕ)) (front : List ℕ) (j : ℕ) → All IsWhole bs → length front ≡ j * 264

@@ -127,8 +127,7 @@ pub is_printed : IsPrinted
 is_printed g extents slots size count text tracks most has within =
     let lines = lines_of text in
     let are = are_records size 1 lines has.records has.are in
-    let each = length_fits g.model (count * size) has.records (mul-le 1 1 count size has.many has.some) has.most in
-    cc (
+    let each = length_fits g.model (count * size) has.records (mul-le 1 1 count size has.many has.some) has.most in cc (
       read_as g.model (Length (count * size)) has.records each (Text (layout_of size count))
           (λ (a : Areas). (records_written (layout_of size count) 0 0 a.data_area).bytes) tracks g extents slots most
           (all_written size count lines has.records has.some are g.model each) has.takes refl within has.loaded,

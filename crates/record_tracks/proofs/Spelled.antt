@@ -39,10 +39,7 @@ records-append track number (a ∷ others) ys =
 -- a record, by the bytes of its track's address
 pub length-record_with : (track : List ℕ) (number : ℕ) (a : Areas) → length track ≡ 4
     → length (record_bytes (record_with track number a)) ≡ area_size a
-length-record_with track number a four = omega (
-  arith,
-  length-append {A = ℕ},
-)
+length-record_with track number a four = omega (arith, length-append {A = ℕ})
 
 pub length-records : (track : List ℕ) (number : ℕ) (areas : List Areas) → length track ≡ 4
     → length (flat_map record_bytes (records_with track number areas)) ≡ sizes areas
@@ -79,11 +76,9 @@ one_more_record g n k areas a there is =
 
 -- how long that is
 pub length-front : (g : Geometry) (n : ℕ) (areas : List Areas) → length (records_front g n areas) ≡ 21 + sizes areas
-length-front g n areas = omega (
-  arith,
-  length-append (track_front g n) (flat_map record_bytes (records_with (track_bytes g n) 1 areas)),
-  length-records (track_bytes g n) 1 areas refl,
-)
+length-front g n areas =
+    let three = length-append (track_front g n) (flat_map record_bytes (records_with (track_bytes g n) 1 areas)) in
+    omega (arith, length-records (track_bytes g n) 1 areas refl)
 
 -- Room in a slot that has 37 bytes more than the capacity.
 module _ (g : Geometry) (n : ℕ) (areas : List Areas) where

@@ -74,15 +74,10 @@ module _ (model : DriveModel) (areas : List Areas) where
       by (inl before) =
           let d = track - suc later in
           let e : suc later + d ≡ track = omega arith in
-          let on = left_behind model areas later in absurd (omega (
-            arith,
-            left_shrinks model areas (suc later) d,
-            ap (λ (i : ℕ). length (left_behind model areas i)) e,
-            ap length (one_behind model areas later) ∙ length-drop (fitting_on model on) on,
-            left_long k track number s,
-            left_long j later its_number r,
-            (fits_on model 0 (left_behind model areas track)).within,
-          ))
+          let same = ap (λ (i : ℕ). length (left_behind model areas i)) e in
+          let next = ap length (one_behind model areas later) ∙ length-drop (fitting_on model (left_behind model areas later)) (left_behind model areas later) in
+          let fits = (fits_on model 0 (left_behind model areas track)).within in
+          absurd (omega (arith, left_shrinks model areas (suc later) d, left_long k track number s, left_long j later its_number r))
 
   -- a record stands in one place
   pub one_place : (k track number other its_number : ℕ) → StandsAt model areas k track number → StandsAt model areas k other its_number
@@ -92,13 +87,9 @@ module _ (model : DriveModel) (areas : List Areas) where
       let high = in_order k k other its_number track number r s (omega arith) in
       let same : track ≡ other = omega arith in (
         same,
-        omega (
-          arith,
-          ap (λ (i : ℕ). length (left_behind model areas i)) same,
-          left_long k track number s,
-          left_long k other its_number r,
-          (fits_on model 0 (left_behind model areas track)).within,
-        ),
+        (let e = ap (λ (i : ℕ). length (left_behind model areas i)) same in
+            let fits = (fits_on model 0 (left_behind model areas track)).within in
+            omega (arith, left_long k track number s, left_long k other its_number r)),
       )
 
   pub address_is : All (GoesOn model) areas → (k track number : ℕ) → k < length areas → StandsAt model areas k track number
@@ -116,13 +107,10 @@ module _ (model : DriveModel) (areas : List Areas) where
       by (inl is) = is
       by (inr past) =
           let d = track - tracks in
-          let e : tracks + d ≡ track = omega arith in absurd (omega (
-            arith,
-            left_shrinks model areas tracks d,
-            ap (λ (i : ℕ). length (left_behind model areas i)) e,
-            ap length takes.all,
-            (fits_on model 0 (left_behind model areas track)).within,
-          ))
+          let e : tracks + d ≡ track = omega arith in
+          let same = ap (λ (i : ℕ). length (left_behind model areas i)) e in
+          let fits = (fits_on model 0 (left_behind model areas track)).within in
+          absurd (omega (arith, left_shrinks model areas tracks d, ap length takes.all))
 
 -- Records of the same lengths stand in the same places.
 pub record SameLengths (xs ys : List Areas) : Type 0 where

@@ -154,8 +154,7 @@ module _ (e : EntryContents) (is : IsEntry e) (front rest : List ℕ) (at : ℕ)
       let next = at + length (entry_bytes e) in
       let no_last : is_last e.name ≡ false = false_from_ne_true (is_last e.name) (λ h.
       is.no_last ((bytes_eq-Decides e.name (replicate 8 255)).0 h)) in
-      let is_next : at + 12 + lengths_byte e % 32 * 2 ≡ next = omega (arith, said.user, length-entry e is) in
-      cc (
+      let is_next : at + 12 + lengths_byte e % 32 * 2 ≡ next = omega (arith, said.user, length-entry e is) in cc (
         spread_is,
         ordinary front e.name (e.user_data ++ rest) at (e.address.track / 256) (e.address.track % 256) e.address.number (lengths_byte e)
             is_at is.name end next no_last is_next (omega (arith, length-entry e is)) within,

@@ -1,16 +1,15 @@
 -- Blanks at the end of bytes of EBCDIC, and at the end of the text that these are.
 use Rattle.std.proofs.Common.{◌≡◌, ◌≢◌, ◌∙◌, ◌<◌, ◌≤◌, ◌+◌, ◌-◌, ◌==◌, ℕ, zero, suc, Bool, true, false, cond, List, [], ◌∷◌, ◌++◌, length}
 use Rattle.std.proofs.Common.{take, get_or, reverse, replicate, ap, refl, sym, subst, arith, append_assoc, append-nil, length-append, ◌⊎◌}
-use Rattle.std.proofs.Common.{inl, inr, ◌||◌, not, nat_lt, nat_le, ◌&&◌, ap₂, Option, Some, None, Ok, Err, ◌*◌, drop, Result, flat_map}
-use Rattle.std.specs.List.{range_with_len, suffix_len, prefix_len, list_all}
+use Rattle.std.proofs.Common.{inl, inr, ◌||◌, nat_lt, nat_le, ◌&&◌, ap₂, Option, Some, None, Ok, Err, ◌*◌, drop, Result, flat_map}
+use Rattle.std.specs.List.{suffix_len, prefix_len}
 use Rattle.std.proofs.lemmas.List.{drop_all, take_at, get_or_past, reverse-append, reverse-reverse, take_all, take-append-le}
-use Rattle.std.proofs.lemmas.List.{get_or-append_right, length-replicate}
-use Rattle.std.proofs.lemmas.List.FromFn.{get_or-range_with_len, length-range_with_len}
-use Rattle.std.specs.Prelude.{encode_utf8, position, slice_range}
+use Rattle.std.proofs.lemmas.List.{get_or-append_right, get_or_push, length-replicate}
+use Rattle.std.specs.Prelude.{encode_utf8, slice_range}
 use Rattle.std.proofs.lemmas.List.Concat.{flat_map-append}
-use Rattle.std.proofs.lemmas.List.Sums.{suffix_len-take_no, AllPass-from_list_all}
+use Rattle.std.proofs.lemmas.List.Sums.{suffix_len-take_no}
 use Rattle.std.proofs.Math.Seq.{take-append-add, drop-append-add, drop-append_seam}
-use Rattle.std.proofs.lemmas.Bool.{eq-eqb, ne_eqb, eqb-true, ltb-true, ltb-false, cases_eq, le-ltb}
+use Rattle.std.proofs.lemmas.Bool.{eq-eqb, ne_eqb, eqb-true, ltb-false, cases_eq, cases_lt, le-ltb, agree_below, agree_below_at}
 use Rattle.std.proofs.lemmas.Str.{encode_ascii, inside_one, length-encode, len_utf8_bounds, encodes-chars, IsUtf8-from_is_utf8}
 use Rattle.volume_labels.specs.Ebcdic.{code_page_037, character_of}
 use Rattle.volume_labels.specs.Lines.{is_blank, without_blanks}
@@ -62,17 +61,9 @@ blank_is : text_character 0x40 ≡ 32
 unfolding code_page_037
 blank_is = refl
 
-other_is_none : ℕ → Bool
-other_is_none b = (b == 0x40) || not (text_character b == 32)
-
-all_others : list_all other_is_none (range_with_len 0 256) ≡ true
-unfolding code_page_037 other_is_none
-all_others = refl
-
-either : (s t : Bool) → (s || not t) ≡ true → t ≡ true → s ≡ true
-either true t e h = refl
-either false true e h = e
-either false false e h = absurd cc
+blanks : agree_below (λ b. b == 0x40) (λ b. text_character b == 32) 256 ≡ true
+unfolding code_page_037
+blanks = refl
 
 -- behind the table there is no character
 past : (b : ℕ) → 256 ≤ b → text_character b ≡ 0xFFFD
@@ -80,20 +71,12 @@ unfolding code_page_037
 past b outside = ap (λ c. cond (nat_lt c 32 || (nat_le 127 c && nat_lt c 160)) 0xFFFD c) (get_or_past code_page_037 b 0 outside)
 
 only_blank : (b : ℕ) → text_character b ≡ 32 → b ≡ 0x40
-unfolding other_is_none
-only_blank b is = go (nat_lt b 256) refl
+only_blank b is = go (cases_lt b 256)
   where
-    inside : b < 256 → other_is_none b ≡ true
-    inside h = ap other_is_none (sym (get_or-range_with_len 0 256 b 0 h ∙ omega arith))
-        ∙ AllPass-from_list_all other_is_none (range_with_len 0 256) all_others b 0 (omega (arith, length-range_with_len 0 256))
-
-    go : (t : Bool) → t ≡ nat_lt b 256 → b ≡ 0x40
-    go true e =
-        eqb-true b 0x40 (either (b == 0x40) (text_character b == 32) (inside (ltb-true b 256 (sym e))) (eq-eqb (text_character b) 32 is))
-    go false e = absurd (differ (text_character b) is (past b (ltb-false b 256 (sym e))))
-      where
-        differ : (c : ℕ) → c ≡ 32 → c ≡ 0xFFFD → ⊥
-        differ c e f = omega arith
+    go : (b < 256) ⊎ (256 ≤ b) → b ≡ 0x40
+    go (inl inside) = eqb-true b 0x40 (agree_below_at (λ b. b == 0x40) (λ b. text_character b == 32) 256 b blanks inside
+        ∙ eq-eqb (text_character b) 32 is)
+    go (inr outside) = absurd (omega (arith, past b outside))
 
 module _ (front : List ℕ) (b : ℕ) where
   text_more : text_of (front ++ b ∷ []) ≡ text_of front ++ encode_utf8 (text_character b)
@@ -143,9 +126,8 @@ module _ (front : List ℕ) (b : ℕ) where
       )
         where
           last_of_bytes : is_blank (get_or (front ++ b ∷ []) (length (front ++ b ∷ []) - 1) 0) ≡ false
-          last_of_bytes = ap is_blank (get_or-append_right front (b ∷ []) (length front) (length (front ++ b ∷ []) - 1) 0 refl
-              (omega (arith, length-append front (b ∷ [])))
-              ∙ ap (λ n. get_or (b ∷ []) n 0) {y = 0} (omega (arith, length-append front (b ∷ [])))) ∙ ne_eqb b 0x40 differs
+          last_of_bytes = rw (get_or_push front b 0 (length (front ++ b ∷ []) - 1) (omega (arith, length-append front (b ∷ []))))
+              (ne_eqb b 0x40 differs)
 
 -- The blanks at the end of bytes are those at the end of their text.
 cut_reversed : (rest : List ℕ) → text_of (without_blanks (reverse rest)) ≡ read.without_blanks (text_of (reverse rest))
@@ -161,12 +143,9 @@ code_read : (c b : ℕ) → code_of c ≡ Some b → text_character b ≡ c
 code_read c b is = go (is_control c) refl
   where
     go : (t : Bool) → is_control c ≡ t → text_character b ≡ c
-    go true e = absurd (none (cc))
-      where
-        none : None ≡ Some b → ⊥
-        none e = absurd cc
+    go true e = let none = rw e at is in absurd (cc)
     go false e =
-        let found = sym (ap (λ t. cond t None (position (λ (it : ℕ). it == c) code_page_037)) e) ∙ is in
+        let found = rw e at is in
         let same = eqb-true (character_of b) c (position-Some (λ (it : ℕ). it == c) code_page_037 b 0 found).1 in cc
 
 parts : (a : Option ℕ) (x : Option (List ℕ)) (codes : List ℕ) → before a x ≡ Some codes
@@ -196,10 +175,7 @@ line_read line codes is = go (is_utf8 line) refl
   where
     go : (t : Bool) → is_utf8 line ≡ t → text_of codes ≡ line
     go true e = codes_read (chars line) codes (cc) ∙ encodes-chars line (IsUtf8-from_is_utf8 line e)
-    go false e = absurd (none (cc))
-      where
-        none : None ≡ Some codes → ⊥
-        none e = absurd cc
+    go false e = let none = rw e at is in absurd (cc)
 
 -- A record is as long as it is wanted, and is read as its line.
 pub record IsRecord (size : ℕ) (line bytes : List ℕ) : Type 0 where

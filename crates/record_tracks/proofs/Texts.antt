@@ -82,8 +82,7 @@ module _ (model : DriveModel) (cut : Cut) where
       let behind = drop n bytes in
       let more = one_more cut most bytes (omega arith) in
       let blocks = subst (All (IsBlock model cut)) more each in
-      let first = All-head (IsBlock model cut) bytes (rests_to cut most behind) blocks in
-      cc (
+      let first = All-head (IsBlock model cut) bytes (rests_to cut most behind) blocks in cc (
         first_text model cut bytes are first,
         all_text most behind (omega (arith, some_taken model cut bytes first, length-drop n bytes)) (All-drop IsByte n bytes are)
             (All-tail (IsBlock model cut) bytes (rests_to cut most behind) blocks),

@@ -10,11 +10,7 @@ number_of-number-requires-clause-records c =
 
 number_is : (c : After-number_of-number) → c.number_of-number.result
     ≡ first_record c.args.placed.library.now.directory_blocks c.args.placed.library.now.members.now c.args.member + c.args.block
-number_is c = omega (
-  arith,
-  length-records c.args.placed c.requires.placed.are,
-  length-behind c.args.placed.library.now c.args.member,
-)
+number_is c = omega (arith, length-records c.args.placed c.requires.placed.are, length-behind c.args.placed.library.now c.args.member)
 
 pub place_of-track-requires-clause-number : goal.place_of-track-requires-clause-number
 place_of-track-requires-clause-number c =

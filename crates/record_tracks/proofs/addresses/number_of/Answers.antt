@@ -13,11 +13,7 @@ none_left : (c : After-loop-k) → length (members_areas (drop c.loop-k.k c.args
 none_left c = ap (λ (xs : List NewMember). length (members_areas xs)) (drop_all c.loop-k.k c.args.members.now (omega arith))
 
 pub overflow_add-result : goal.overflow_add-result
-overflow_add-result c = omega (
-  arith,
-  none_left c,
-  length-first c.args.members.now c.args.member c.requires.member,
-)
+overflow_add-result c = omega (arith, none_left c, length-first c.args.members.now c.args.member c.requires.member)
 
 pub returns : goal.returns
 returns c = omega (arith, none_left c)

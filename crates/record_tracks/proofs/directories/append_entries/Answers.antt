@@ -16,11 +16,7 @@ next_bytes c =
     let all = all_entries (all_contents c.args.entries.now) in
     let left = drop c.args.from all in
     let k = c.loop-k.k in
-    let there : k < length left = omega (
-      arith,
-      length-drop c.args.from all,
-      length-entries c.args.entries.now,
-    ) in
+    let there : k < length left = omega (arith, length-drop c.args.from all, length-entries c.args.entries.now) in
     cc (concat_more left k there, get_or-drop c.args.from all k [])
 
 next_size : (c : After-bytes_at)
@@ -29,12 +25,9 @@ next_size : (c : After-bytes_at)
     + (12 + length c.bytes_at.result.user_data.now)
 next_size c =
     let all = all_entries (all_contents c.args.entries.now) in
-    let left = drop c.args.from all in omega (
-      arith,
-      ap length (next_bytes c),
-      length-append (concat (take c.loop-k.k left)) (c.bytes_at.result.front ++ c.bytes_at.result.user_data.now),
-      ap length c.bytes_at.ensures.bytes,
-    )
+    let left = drop c.args.from all in
+    let two = length-append (concat (take c.loop-k.k left)) (c.bytes_at.result.front ++ c.bytes_at.result.user_data.now) in
+    omega (arith, ap length (next_bytes c), ap length c.bytes_at.ensures.bytes)
 
 pub append_entry-at-requires : goal.append_entry-at-requires
 append_entry-at-requires c =

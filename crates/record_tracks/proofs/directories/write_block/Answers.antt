@@ -17,10 +17,8 @@ returns-then-count-eq0-clause-block c =
     let all = all_entries (all_contents c.args.entries.now) in
     let from = c.args.from in
     let past : length all ≤ from = ⊎_elim
-    (λ (there : from < length all). absurd (omega (
-      arith,
-      some_fit all from (entries_short (all_contents c.args.entries.now) c.requires.each) there,
-    )))
+    (λ (there : from < length all). absurd
+    (omega (arith, some_fit all from (entries_short (all_contents c.args.entries.now) c.requires.each) there)))
     (λ (past : length all ≤ from). past) (cases_lt from (length all)) in
     c.clear.ensures ∙ ap (λ (n : ℕ). replicate n 0) c.requires.room ∙ ap block_of (sym (drop_all from all past))
 
@@ -43,13 +41,9 @@ returns-clause-block c =
     let some : 1 ≤ length left = omega arith in
     let short = entries_short (all_contents c.args.entries.now) c.requires.each in
     let short_left = All-drop IsShort from all short in
-    let ten : length head ≡ 10 = omega (
-      arith,
-      length-append key (used / 256 ∷ used % 256 ∷ []),
-      ap length key_is,
-      ap (λ (n : ℕ). length (key_of (take n left))) count,
-      length-key left short_left some,
-    ) in
+    let one = ap (λ (n : ℕ). length (key_of (take n left))) count in
+    let two = length-append key (used / 256 ∷ used % 256 ∷ []) in
+    let ten : length head ≡ 10 = omega (arith, ap length key_is, length-key left short_left some) in
     cc (
       put_behind 264 c.begin.new.block c.append_entries.new.block head (concat ps) 10 c.append_entries.ensures.written
           (c.begin.ensures.same ∙ c.requires.room) ten (c.begin.ensures.written ∙ ap (λ (n : ℕ). filled n head) c.requires.room),

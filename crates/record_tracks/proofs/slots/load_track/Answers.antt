@@ -14,8 +14,7 @@ returns-clause-slot c =
     let track = track_bytes g c.args.track in
     let left = drop c.args.from (all_areas c.args.blocks.now) in
     let count = c.args.from + c.fitting.result - c.args.from in
-    let is : count ≡ fitting_on g.model left = omega arith in
-    cc (
+    let is : count ≡ fitting_on g.model left = omega arith in cc (
       put_behind n _ _ (records_front g c.args.track (take count left)) end_mark _ c.append.ensures.written c.spell_records-at.ensures.same
           (sym c.spell_records-at.ensures.next) c.spell_records-at.ensures.written,
       track_spelled (0 ∷ track) (record_bytes (record_with track 0 (record { key_area = []; data_area = replicate 8 0 })))

@@ -22,10 +22,7 @@ next_is : (c : After-record_at) → get_or (drop c.args.part.0 (all_areas c.args
 next_is c = get_or-drop c.args.part.0 (all_areas c.args.blocks.now) c.loop-k.k end_of_file ∙ sym c.record_at.ensures
 
 next_there : (c : After-record_at) → c.loop-k.k < length (drop c.args.part.0 (all_areas c.args.blocks.now))
-next_there c = omega (
-  arith,
-  length-left c.args.blocks.now c.args.part.0,
-)
+next_there c = omega (arith, length-left c.args.blocks.now c.args.part.0)
 
 next_goes : (c : After-record_at) → GoesOn c.args.geometry.model (areas_of c.record_at.result)
 next_goes c =
@@ -48,8 +45,7 @@ append_record-at-requires c =
 pub loop-k-init : goal.loop-k-init
 loop-k-init c =
     let g = c.args.geometry in
-    let none = no_areas g c.args.track in
-    record {
+    let none = no_areas g c.args.track in record {
       size = c.begin-at.ensures.same;
       place = c.begin-at.ensures.next ∙ sym (ap length none);
       written = c.begin-at.ensures.written ∙ ap (filled (length c.args.slot.now)) (sym none);
