@@ -14,7 +14,9 @@ from .layout import AXIS, LEFT, Box, Layout, lay_out
 from .markup import Html, joined, tag
 from .owners import NOBODY, extents_of, owners_of
 
+# c/interface.toml: begin
 CAPACITY = {2311: 3625, 2314: 7294}
+# c/interface.toml: end
 #: So many colours tell data sets apart; those beyond have the same colours with another hatching.
 COLOURS, HATCHINGS = 8, 5
 WIDTH = 1180

@@ -44,10 +44,12 @@ class Model:
         return max(0, self.charge(key, data) - self.charge(0, 8))
 
 
+# c/interface.toml: begin
 MODELS = {
     "2311": Model("2311", 0x11, 10, 3625, 4096, 61, 20, (537, 512)),
     "2314": Model("2314", 0x14, 20, 7294, 7680, 101, 45, (2137, 2048)),
 }
+# c/interface.toml: end
 
 
 @dataclass

@@ -4,13 +4,13 @@ The layouts are those of System Control Blocks (GC28-6628), 'Volume Label' and '
 
 from dataclasses import dataclass
 
+from conformance.suite.volumes import Model
 from tools.common.images import Image
 from tools.common.volume_layouts import Run, ebcdic
 
 FIRST_SET = 3
-BLOCKS = {"2311": 16, "2314": 25}
-# The characteristics of a drive in a format 4 block: bytes of a track, overheads, tolerance, blocks of either kind on a track.
-DEVICE = {"2311": "0E29511414010219100A", "2314": "1C7E922D2D0102161911"}
+# Key and data of a control block, and of a block of a directory.
+CONTROL_BLOCK, DIRECTORY_BLOCK = (44, 96), (8, 256)
 ORGANISATION = {"PS": b"\x40\0", "PO": b"\2\0"}
 # Record formats: fixed and variable length, both blocked.
 FORMAT = {"FB": 0x90, "VB": 0x50}
@@ -25,6 +25,19 @@ DATA, SHARED = 0x01, 0x80
 def extent(image: Image, number: int, run: Run, kind: int = DATA) -> bytes:
     """An extent of a control block."""
     return bytes([kind, number]) + b"".join(map(image.address, run))
+
+
+def most_on_track(model: Model, key: int, data: int) -> int:
+    """So many records of these lengths fit on a track."""
+    return (model.capacity - model.last_charge(key, data)) // model.charge(key, data) + 1
+
+
+def characteristics(model: Model) -> bytes:
+    """A drive in a format 4 block: bytes of a track, overheads, tolerance, blocks of either kind on a track."""
+    by, of = model.scale
+    gaps = bytes([model.gap + model.key_gap, model.key_gap, model.key_gap, 1])
+    blocks = bytes(most_on_track(model, *it) for it in (CONTROL_BLOCK, DIRECTORY_BLOCK))
+    return model.capacity.to_bytes(2, "big") + gaps + (512 * by // of).to_bytes(2, "big") + blocks
 
 
 @dataclass
@@ -67,9 +80,8 @@ def put_label(image: Image, serial: str, sets: list[DataSet], owner: str = "SCRI
     for it in sets:
         last = FIRST_SET + len(blocks)
         blocks += it.blocks(image, serial, last)
-    model = image.volume.model.name
-    free = BLOCKS[model] - 2 - len(blocks)
-    device = image.volume.cylinders.to_bytes(2, "big") + image.heads.to_bytes(2, "big") + bytes.fromhex(DEVICE[model])
+    free = most_on_track(image.volume.model, *CONTROL_BLOCK) - 2 - len(blocks)
+    device = image.volume.cylinders.to_bytes(2, "big") + image.heads.to_bytes(2, "big") + characteristics(image.volume.model)
     table = b"\xf4\0\0\0\1" + bytes([last]) + free.to_bytes(2, "big") + bytes(6) + b"\x80\1\0\0" + device
     table = table.ljust(61, b"\0") + extent(image, 0, (1, 1))
     space = (b"\5" * 4).ljust(44, b"\0"), b"\xf5".ljust(96, b"\0")

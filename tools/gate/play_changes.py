@@ -16,7 +16,7 @@ from collections.abc import Callable
 from dataclasses import dataclass
 from pathlib import Path
 
-from conformance.suite.volumes import Record
+from conformance.suite.volumes import MODELS, Record
 from tools.common.images import Image, Place
 from tools.common.said_sets import Block
 from tools.common.volume_layouts import Run, ebcdic
@@ -219,7 +219,7 @@ class Player:
     def pack(self) -> None:
         """A new pack, and changes of it."""
         model, cylinders = self.chance.choice(["2311", "2314"]), self.chance.randint(1, 6)
-        table = self.chance.randint(1, 9 if model == "2311" else 19)
+        table = self.chance.randint(1, MODELS[model].heads - 1)
         words = ["--model", model, "--cylinders", str(cylinders), "--label", "PACK01", "--vtoc", str(table)]
         said = self.dasd("format", "pack.ckd", *words)
         if said[0]:

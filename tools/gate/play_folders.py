@@ -12,13 +12,13 @@ import tempfile
 from dataclasses import dataclass, field
 from pathlib import Path
 
+from conformance.suite.volumes import MODELS
 from tools.common.folder_texts import TEXT, folder_text
 from tools.common.images import Image
 from tools.common.record_forms import with_lengths
 from tools.common.said_sets import Block, blocks_hash, said_by
 from tools.gate.chance_files import Form, asked_for, block_by_chance, records_by_chance, same
 
-CAPACITIES = {"2311": 3625, "2314": 7294}
 LETTERS, BEHIND = "$#@ABXZ", "$#@AZ059"
 DAYS = ("-", "1974-365", "2026-001")
 
@@ -109,8 +109,8 @@ class Player:
 
     def play(self, number: int) -> None:
         """A folder and a new pack."""
-        model = self.chance.choice(sorted(CAPACITIES))
-        folder = Maker(self.chance, CAPACITIES[model]).make()
+        model = self.chance.choice(sorted(MODELS))
+        folder = Maker(self.chance, MODELS[model].capacity).make()
         with tempfile.TemporaryDirectory() as name:
             room, what = Path(name), f"folder {number}"
             folder.write(room / "in")

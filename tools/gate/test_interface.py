@@ -11,7 +11,7 @@ from tools.make.interface import TABLE, with_parts
 from tools.make.interface_rattle import differences
 from tools.make.interface_table import Interface, Struct, TableFault, read
 
-CRATES = ("dasd_c", "lone_drive_c", "subsystem_calls", "dasd_subsystem", "dasd_files", "ckd_track")
+CRATES = ("dasd_c", "lone_drive_c", "subsystem_calls", "dasd_subsystem", "dasd_files", "ckd_track", "ckd_image")
 
 
 def changed(path: Path, old: str, new: str) -> None:
@@ -31,7 +31,8 @@ class InFolder(unittest.TestCase):
         self.table = self.top / "interface.toml"
         shutil.copy(TOP / TABLE, self.table)
         for it in CRATES:
-            shutil.copytree(TOP / "crates" / it / "src", self.top / it / "src")
+            for part in ("src", "specs"):
+                shutil.copytree(TOP / "crates" / it / part, self.top / it / part)
 
     def differs(self, *lines: str) -> None:
         """The crates differ from the table just so."""
@@ -69,8 +70,16 @@ class Crates(InFolder):
         )
 
     def test_another_drive(self) -> None:
-        changed(self.top / "ckd_track/src/model.rt", "DriveModel::D2311 => 3625", "DriveModel::D2311 => 3626")
-        self.differs("capacity of the drives: ckd_track has [3626, 7294], and the table [3625, 7294]")
+        changed(self.top / "ckd_track/specs/Model.antt", "capacity_of D2311 = 3625", "capacity_of D2311 = 3626")
+        self.differs("capacity_of D2311: the definitions have 3626, and the table 3625")
+        changed(self.table, "scale = [2137, 2048]", "scale = [2136, 2048]")
+        rule = "101 + key_overhead_of D2314 kl + (kl + dl) * {} / 2048"
+        both = f"the definitions have {rule.format(2137)}, and the table {rule.format(2136)}"
+        self.differs("capacity_of D2311: the definitions have 3626, and the table 3625", f"charge_of D2314: {both}")
+
+    def test_a_drive_that_the_table_lacks(self) -> None:
+        changed(self.top / "ckd_image/specs/Header.antt", "device_type_of D2314 = 0x14\n", "device_type_of D2314 = 0x14\ndevice_type_of D2321 = 0x21\n")
+        self.differs("device_type_of D2321: the definitions have 0x21, and the table none")
 
 
 class Tables(InFolder):

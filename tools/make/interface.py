@@ -5,8 +5,9 @@
 
 A part of a file is between a line with 'c/interface.toml: begin' and one with 'c/interface.toml: end'; around it the file is written by hand. What a
 file looks like is a template in tools/make/templates. `--check` looks also whether the crates export just the calls of the table, with its parameters,
-and answer just its faults. What is wrong is reported; the last line is 'N files looked at, M are not as c/interface.toml has it', and the status 1
-where M is not 0 or the crates differ. It wants Debian's python3-jinja2, and says so where that is not there."""
+and answer just its faults, and whether their definitions have just its drives. What is wrong is reported; the last line is 'N files looked at, M are
+not as c/interface.toml has it', and the status 1 where M is not 0 or the crates differ. It wants Debian's python3-jinja2, and says so where that is not
+there."""
 
 import argparse
 import sys
@@ -42,6 +43,9 @@ PARTS = {
     "web/exports.txt": ["exports.txt.jinja"],
     "web/src/fault.mjs": ["fault.mjs.jinja"],
     "web/src/library.mjs": ["library.mjs.jinja"],
+    "web/src/volume.mjs": ["volume.mjs.jinja"],
+    "catalogue/dasd_catalogue/picture.py": ["picture.py.jinja"],
+    "conformance/suite/volumes.py": ["volumes.py.jinja"],
     "docs/EMBEDDING.md": ["EMBEDDING.md.jinja"],
 }
 

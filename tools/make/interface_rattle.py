@@ -1,5 +1,5 @@
 """Whether the crates of which the libraries are made are as c/interface.toml has it: the calls that they export, with their parameters, the fields of their
-structs, the numbers by which they refuse, and the drives."""
+structs, the numbers by which they refuse, and the drives by their definitions."""
 
 import re
 from collections.abc import Iterator
@@ -18,6 +18,9 @@ STRUCT = re.compile(r"#\[repr\(C\)\]\s+#\[derive\([^)]*\)\]\s+pub struct (\w+) \
 FIELD = re.compile(r"^    pub(?:\(crate\))? (\w+): (.*),$", re.MULTILINE)
 CONSTANT = re.compile(r"const (\w+): i32 = (-\d+);")
 ARM = re.compile(r"=> (-\d+),")
+# The definitions of the drives, and a rule of one for a drive by its number.
+MODELS = ("ckd_track/specs/Model.antt", "ckd_track/specs/Charges.antt", "ckd_image/specs/Header.antt")
+RULE = re.compile(r"^(\w+ D\d+)(?: kl dl| kl)? = (.*)$", re.MULTILINE)
 
 
 @dataclass(frozen=True)
@@ -125,14 +128,27 @@ def wrong_faults(side: Side, shared: Header) -> Iterator[str]:
         yield f"{number}: {side.exports.name} answers it, and the table lacks it"
 
 
+def rules_of(model: Row) -> dict[str, str]:
+    """What the definitions have of a drive."""
+    by, of = model["scale"]
+    return {
+        "model_number_of": f"{model['number']}",
+        "device_type_of": f"{model['type']:#04x}",
+        "heads_of": f"{model['heads']}",
+        "capacity_of": f"{model['capacity']}",
+        "slot_size_of": f"{model['slot']}",
+        "key_overhead_of": f"if nat_lt 0 kl then {model['key_gap']} else 0",
+        "charge_of": f"{model['gap']} + key_overhead_of D{model['number']} kl + (kl + dl) * {by} / {of}",
+    }
+
+
 def wrong_models(models: list[Row], text: str) -> Iterator[str]:
-    """What of the drives is otherwise."""
-    for key, function in (("number", "number"), ("heads", "heads"), ("capacity", "capacity"), ("slot", "slot_size")):
-        body = text.split(f"pub fn {function}(", 1)[1].split("\n    }\n", 1)[0]
-        there = [int(it) for it in re.findall(r"DriveModel::D\d+ => (\d+)", body)]
-        told = [it[key] for it in models]
-        if there != told:
-            yield f"{key} of the drives: ckd_track has {there}, and the table {told}"
+    """What of the drives is otherwise in the definitions, and drives that only one of the two has."""
+    there = dict(RULE.findall(text))
+    told = {f"{function} D{it['number']}": body for it in models for function, body in rules_of(it).items()}
+    for name in sorted(set(there) | set(told)):
+        if there.get(name) != told.get(name):
+            yield f"{name}: the definitions have {there.get(name, 'none')}, and the table {told.get(name, 'none')}"
 
 
 def differences(interface: Interface, crates: Path) -> list[str]:
@@ -146,4 +162,4 @@ def differences(interface: Interface, crates: Path) -> list[str]:
     found = [*wrong_calls(library), *wrong_calls(drive)]
     found += [*wrong_structs(library, of_library), *wrong_structs(drive, texts(drive.exports, files))]
     found += [*wrong_faults(library, library.header), *wrong_faults(drive, library.header)]
-    return found + [*wrong_models(interface.models, texts(crates / "ckd_track/src/model.rt"))]
+    return found + [*wrong_models(interface.models, texts(*(crates / it for it in MODELS)))]

@@ -80,7 +80,9 @@ import { tarOf } from './tar.mjs';
  * Bytes of a track (IBM 2841 and 2314 component descriptions, 'Track Capacity').
  * @type {Record<number, number>}
  */
+// c/interface.toml: begin
 const CAPACITY = { 2311: 3625, 2314: 7294 };
+// c/interface.toml: end
 /** The file that `extract --all` writes beside those of data sets and members: what labels and directories say of them. */
 const FORMS = 'data_sets.txt';
 /** So many lines are found at most. */
