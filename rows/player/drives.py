@@ -14,7 +14,8 @@ A line has calls, with `;` between:
 | `settle`, `settle fails` | the drive settles, or its store fails |
 | `sense 80 10`, `saved`, `written`, `unsaved 0 3` | what the drive tells |
 
-Other lines say what the volume holds (`track`, `failing`), and what is left (`left`, `reads`, `writes`, `first reads`). A row is
+Other lines say what the volume holds (`track`, `failing`), and what is left (`left`, `reads`, `writes`). `split 2` among the lines of a volume
+puts it into two files, the second of which begins with that cylinder: `reads` is then of the second store, `first reads` of the first. A row is
 played with its bytes in pieces of several sizes; and with each call of each store failing in turn, which must be told."""
 from __future__ import annotations
 

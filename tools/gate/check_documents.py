@@ -7,6 +7,8 @@
 - tools/edits/README.md names the must-fail edits of the gate, each of them.
 - Each file of Rattle or antt that a document names is there: `crates/NAME/src/x.rt`, `NAME/specs/X.antt`; a name without a folder, as `Geometry.antt`,
   is looked for in the folder that was named last in its paragraph.
+- Each file in a table of docs/EXTENDING.md is there and has the first word in code beside it; and each source of a crate in which the pattern before the
+  table, `<!-- sources: PATTERN -->`, is found is in the table.
 - Each name that the last column of a table in a crate's README has in code, as `Drive::new` or `Follows`, stands in the crate's own files.
 - docs/RULES.md is what tools/make/rules.py writes of this tree: each definition, function and vector that it names is there, and no rule of the
   conformance suite and none of docs/DEFINITIONS.md is without a row.
@@ -31,6 +33,10 @@ MAIL = re.compile(r"[\w.-]+@[\w-]+(?:\.[a-zA-Z]{2,})+")
 # What names people in packages.
 PACKAGED = ("CITATION.cff", "adapters/*/make_package", "release/make_*", "release/debian/**/*", "**/Cargo.toml", "**/pyproject.toml")
 WORD = re.compile(r"(?:[A-Z]\w*::)?([A-Za-z_]\w*)")
+# The files of a change: its example in sources, and several paths in one.
+EXTENDING = "docs/EXTENDING.md"
+SOURCES = re.compile(r"<!-- sources: (.*) -->")
+BRACES = re.compile(r"(.*)\{(.*)\}(.*)")
 
 
 class Findings:
@@ -137,6 +143,43 @@ def check_names(findings: Findings, page: Path, text: str) -> None:
                     findings.expect(name.group(1) in words, f"{page.relative_to(TOP)}: {code} is no name of the crate")
 
 
+def paths_of(cell: str) -> list[Path]:
+    """The files that a cell names, below the top."""
+    names = []
+    for code in CODE.findall(cell):
+        found = BRACES.fullmatch(code)
+        names += [found[1] + it + found[3] for it in found[2].split(",")] if found else [code]
+    return [TOP / it for it in names]
+
+
+def check_change(findings: Findings, part: str, sources: dict[Path, str]) -> None:
+    """The files of a change are there, have its example, and are all."""
+    listed: set[Path] = set()
+    for row in re.findall(r"^\| (`.*)\|$", part, re.MULTILINE):
+        cell, _, says = row.partition(" | ")
+        words = CODE.findall(says)[:1]
+        for path in paths_of(cell):
+            listed.add(path)
+            findings.expect(path.is_file(), f"{EXTENDING}: no file {path.relative_to(TOP)}")
+            text = path.read_text(encoding="utf-8") if path.is_file() else "".join(words)
+            findings.expect(all(it in text for it in words), f"{EXTENDING}: {path.relative_to(TOP)} has no {''.join(words)}")
+    for pattern in SOURCES.findall(part):
+        for path in sorted(it for it, text in sources.items() if re.search(pattern, text)):
+            findings.expect(path in listed, f"{EXTENDING}: {part.splitlines()[0]}: no row of {path.relative_to(TOP)}")
+
+
+def check_changes(findings: Findings) -> None:
+    """The tables of docs/EXTENDING.md are those of this tree."""
+    page = TOP / EXTENDING
+    if not page.is_file():
+        return
+    found = [it for kind in ("src/**/*.rt", "specs/**/*.antt") for it in TOP.glob(f"crates/*/{kind}")]
+    sources = {it: it.read_text(encoding="utf-8") for it in found}
+    for part in page.read_text(encoding="utf-8").split("\n## ")[1:]:
+        check_change(findings, part, sources)
+        findings.expect(bool(SOURCES.search(part)), f"{EXTENDING}: {part.splitlines()[0]}: no pattern of its sources")
+
+
 def check_rules(findings: Findings) -> None:
     """The index of rules is whole, and the page is what its files say."""
     if not (TOP / "tools/make/rule_places.txt").is_file():
@@ -155,6 +198,7 @@ def main() -> int:
     check_edits(findings)
     check_rules(findings)
     check_addresses(findings)
+    check_changes(findings)
     for page in documents(TOP):
         text = page.read_text(encoding="utf-8")
         check_links(findings, page, text)
