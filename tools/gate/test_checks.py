@@ -1,5 +1,5 @@
 """Tests of the checks: the rows of rows/data/checks, and what no row can say of check_crates.py, check_formats.py, check_messages.py,
-check_version.py, check_words.py, page_examples.py, lost_power.py, map.py, assumptions.py, inline_marks.py and sharpness.py;
+check_version.py, check_words.py, page_examples.py, lost_power.py, try_edits.py, map.py, assumptions.py, inline_marks.py and sharpness.py;
 and the table of code page 037: `tools/run gate/test_checks`."""
 
 import contextlib
@@ -16,7 +16,7 @@ from unittest import mock
 from rows.player.files import all_rows
 from rows.player.text import Skipped
 from tools import TOP
-from tools.gate import check_crates, check_formats, check_messages, check_version, check_words, page_examples, run_pages
+from tools.gate import check_crates, check_formats, check_messages, check_version, check_words, page_examples, run_pages, try_edits
 from tools.gate.lost_power import Call, Lead, State, Sync, Traced, Write, states
 from tools.make import assumptions, inline_marks
 from tools.make import map as crate_map
@@ -146,6 +146,39 @@ class WrongBodies(unittest.TestCase):
                 taking = sharpness.Suite((), "low", (), takes=("low/round",))
                 found = [[it.name for it in sharpness.edits_of(Path(folder), suite, suite.crates)] for suite in (leaving, taking)]
         self.assertEqual(found, [["low/late"], ["low/round"]])
+
+
+class Edits(unittest.TestCase):
+    """Which edits have their turn, and how long they are tried."""
+
+    EDITS = {crate: [Path(f"{crate}{it}.edit") for it in range(10)] for crate in ("low", "middle", "high", "quick", "slow")}
+
+    def test_a_tenth_has_its_turn_and_each_edit_at_some_commit(self) -> None:
+        had: set[Path] = set()
+        for commit in range(200):
+            chosen = try_edits.turns(self.EDITS, f"commit {commit}")
+            self.assertEqual(sum(map(len, chosen.values())), 5)
+            self.assertEqual(chosen, try_edits.turns(self.EDITS, f"commit {commit}"))
+            had.update(*chosen.values())
+        self.assertEqual(len(had), 50)
+        self.assertEqual(sum(map(len, try_edits.turns({"low": self.EDITS["low"] * 10}, "commit").values())), try_edits.OF_CRATE)
+
+    def tried(self, seconds: float, *crates: str) -> tuple[bool, list[str]]:
+        """What comes of these crates' edits, by a checker that lets those of `high` through and is slow at those of `slow`."""
+        printed = io.StringIO()
+        with tempfile.TemporaryDirectory() as folder:
+            write(folder, {"rt": '#!/bin/sh\ncase $2 in slow) exec sleep 60 ;; high) exit 1 ;; *) echo "$TMPDIR" >> "$2" ;; esac\n'})
+            Path(folder, "rt").chmod(0o755)
+            path = {"PATH": f"{folder}:{os.environ['PATH']}"}
+            with mock.patch.dict(os.environ, path), contextlib.redirect_stdout(printed):
+                is_right = try_edits.try_within(Path(folder), {it: self.EDITS[it][:2] for it in crates}, seconds)
+        return is_right, printed.getvalue().splitlines()
+
+    def test_edits_are_tried_within_the_time(self) -> None:
+        self.assertEqual(self.tried(60, "low", "quick"), (True, []))
+        self.assertEqual(self.tried(60, "low", "high", "quick"), (False, []))
+        left = "not tried in 1 seconds: slow/slow0, slow/slow1, low/low0, low/low1"
+        self.assertEqual(self.tried(1, "quick", "slow", "low"), (True, [left]))
 
 
 class Clauses(unittest.TestCase):

@@ -2,26 +2,38 @@
 
     tools/run gate/try_edits [CRATE..]
     tools/run gate/try_edits --texts
+    tools/run gate/try_edits --by-commit SECONDS
 
-They stand in tools/edits/CRATE, in the form of those in crates/CRATE/must-fail, which the gate tries each time. Without a name all of them are tried: before
-a version is tagged. With names, those of these crates: by whoever changes one of them. What the crates stand on is proved first, as far as `rt lib`
+They are in tools/edits/CRATE, in the form of those in crates/CRATE/must-fail, which the gate tries each time. Without a name all of them are tried: before
+a version is tagged. With names, those of these crates: by whoever changes one of them. What the crates use is proved first, as far as `rt lib`
 has not left it in this checkout; a crate with edits is checked from nothing once more, so all of them take about an hour and a half of processor time.
 
+With --by-commit, as the gate does after `rt ci`, which has just proved the libraries in this checkout, a tenth of the edits have their turn, a few of
+each crate: the commit says which, and in which order. After so many seconds no more are tried, and those that are left are named.
+
 All is done in a copy, and the repository stays as it is. Status 1 where an edit was let through, can't be applied or was not
-tried. With --texts nothing is tried: it is only looked whether each edit, the gate's too, still fits its file, in which each of its old texts stands once.
+tried for another reason. With --texts nothing is tried: it is only looked whether each edit, the gate's too, still fits its file, in which each of its old
+texts is once.
 """
 
+import hashlib
 import os
 import shutil
+import signal
 import subprocess
 import sys
 import tempfile
+import time
+from collections.abc import Iterable
 from pathlib import Path
 
 from tools import TOP
+from tools.common.kit import kit_crate
 from tools.gate import told
 
 EDITS = TOP / "tools" / "edits"
+# How many of the edits have their turn, one of so many; and how many of a crate at most, since it is checked from nothing for them.
+SHARE, OF_CRATE = 10, 5
 
 
 def unfit(edit: Path, crate: Path) -> str | None:
@@ -67,43 +79,108 @@ def put_file(source: str, target: str) -> None:
 
 
 def put_libraries(room: Path) -> None:
-    """Puts the libraries that stand in this checkout where the kit looks for them, which takes those of today's files."""
-    for built in (TOP / "crates").glob("*/out/rlib"):
-        if (built / "stamp").is_file():
-            shutil.copytree(built, room / "crates" / built.parent.parent.name / "out" / "rlib", copy_function=put_file)
+    """Puts the libraries of this checkout where the kit looks for them, which takes those of today's files, by their stamps. Those of `rt ci` have none,
+    and fit no others."""
+    built = [it for it in (TOP / "crates").glob("*/out/rlib") if any(it.iterdir())]
+    for it in [it for it in built if (it / "stamp").is_file()] or built:
+        shutil.copytree(it, room / "crates" / it.parent.parent.name / "out" / "rlib", copy_function=put_file)
 
 
-def put_edits(room: Path, crates: list[str]) -> int:
-    """Puts the edits of these crates where the kit looks for them; how many there are."""
-    count = 0
+def stamp_libraries(room: Path, crates: Iterable[str]) -> None:
+    """Gives the libraries below these crates the stamps of today's files, if none has a stamp."""
+    if any(room.glob("crates/*/out/rlib/stamp")):
+        return
     for crate in crates:
+        _, known = kit_crate(room / "crates" / crate, room)
+        for it in known.below():
+            if Path(it.rlib).is_dir():
+                (Path(it.rlib).parent / "stamp").write_text(it.stamp(), encoding="utf-8")
+
+
+def all_edits() -> dict[str, list[Path]]:
+    """The edits of each crate."""
+    crates = sorted(it for it in EDITS.iterdir() if it.is_dir())
+    return {it.name: sorted(it.glob("*.edit")) for it in crates}
+
+
+def turns(edits: dict[str, list[Path]], commit: str) -> dict[str, list[Path]]:
+    """The edits that have their turn at a commit, by crates, in the order in which they are tried."""
+
+    def place(name: str) -> bytes:
+        return hashlib.sha256(f"{commit} {name}".encode()).digest()
+
+    chosen: dict[str, list[Path]] = {}
+    left = -(-sum(map(len, edits.values())) // SHARE)
+    for crate in sorted(edits, key=place):
+        chosen[crate] = sorted(edits[crate], key=lambda it: place(it.name))[: min(OF_CRATE, left)]
+        left -= len(chosen[crate])
+    return {crate: some for crate, some in chosen.items() if some}
+
+
+def put_edits(room: Path, edits: dict[str, list[Path]]) -> None:
+    """Puts edits where the kit looks for them."""
+    for crate, some in edits.items():
         folder = room / "crates" / crate / "must-fail"
         folder.mkdir(parents=True)
-        for edit in sorted((EDITS / crate).glob("*.edit")):
+        for edit in some:
             shutil.copy2(edit, folder / edit.name)
-            count += 1
-    return count
+
+
+def try_all(room: Path, edits: dict[str, list[Path]]) -> bool:
+    """Tries edits in the copy; whether each was refused."""
+    return subprocess.run(["rt", "must-fail", *edits], cwd=room, check=False).returncode == 0
+
+
+def try_crate(room: Path, crate: str, seconds: float) -> bool | None:
+    """Tries a crate's edits; whether each was refused, or None where that takes longer."""
+    own = room / "tmp"
+    own.mkdir(exist_ok=True)
+    with subprocess.Popen(["rt", "must-fail", crate], cwd=room, env={**os.environ, "TMPDIR": str(own)}, start_new_session=True) as trying:
+        try:
+            return trying.wait(seconds) == 0
+        except subprocess.TimeoutExpired:
+            os.killpg(trying.pid, signal.SIGKILL)
+            return None
+
+
+def try_within(room: Path, edits: dict[str, list[Path]], seconds: float) -> bool:
+    """Tries the edits of one crate after another, and begins no further one once half of the seconds have gone by; whether each that was tried was
+    refused."""
+    began, is_right, left = time.monotonic(), True, []
+    for crate, some in edits.items():
+        gone = time.monotonic() - began
+        found = try_crate(room, crate, seconds - gone) if gone <= seconds / 2 else None
+        is_right &= found is not False
+        left += [f"{crate}/{it.stem}" for it in some if found is None]
+    if left:
+        print(f"not tried in {seconds:g} seconds: {', '.join(left)}")
+    return is_right
 
 
 def main() -> None:
     """Reads the words, and tries the edits in a copy."""
-    if sys.argv[1:] == ["--texts"]:
-        sys.exit(look_at_texts())
-    crates = sys.argv[1:] or sorted(it.name for it in EDITS.iterdir())
-    if any(it.startswith("-") for it in crates):
-        sys.exit(__doc__)
-    unknown = [it for it in crates if not (EDITS / it).is_dir()]
-    if unknown:
-        sys.exit(f"try_edits.py: no edits stand in tools/edits for {', '.join(unknown)}")
+    match sys.argv[1:]:
+        case ["--texts"]:
+            sys.exit(look_at_texts())
+        case ["--by-commit", seconds] if seconds.isdigit():
+            commit = subprocess.run(["git", "rev-parse", "HEAD"], cwd=TOP, check=True, capture_output=True, text=True).stdout.strip()
+            edits, most = turns(all_edits(), commit), float(seconds)
+        case crates if not any(it.startswith("-") for it in crates):
+            edits, most = {crate: some for crate, some in all_edits().items() if crate in crates or not crates}, 0.0
+            if set(crates) - set(edits):
+                sys.exit(f"try_edits.py: no edits are in tools/edits for {', '.join(sorted(set(crates) - set(edits)))}")
+        case _:
+            sys.exit(__doc__)
     with tempfile.TemporaryDirectory() as folder:
         room = Path(folder)
         copy_of(TOP, room)
         put_libraries(room)
-        count = put_edits(room, crates)
-        print(f"{count} edits of {len(crates)} crates", flush=True)
-        status = subprocess.run(["rt", "must-fail", *crates], cwd=room, check=False).returncode
-    print(f"try_edits.py: {count} edits: {'all refused' if status == 0 else 'not all refused, as is said above'}")
-    sys.exit(1 if status else 0)
+        stamp_libraries(room, edits if most else ())
+        put_edits(room, edits)
+        print(f"{sum(map(len, edits.values()))} edits of {len(edits)} crates", flush=True)
+        is_right = try_within(room, edits, most) if most else try_all(room, edits)
+    print(f"try_edits.py: {'all that were tried are refused' if is_right else 'not all are refused, as is said above'}")
+    sys.exit(0 if is_right else 1)
 
 
 if __name__ == "__main__":
