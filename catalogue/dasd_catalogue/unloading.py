@@ -23,7 +23,10 @@ PARTITIONED = "PO"
 
 
 def unload(answer: Answer, volume: Volume, hashes: Hashes) -> None:
-    """Unloads all, to the answer's sets and texts, each with its hash."""
+    """Unloads all, to the answer's sets and texts, each with its hash. Where `dasd vtoc` and `dasd hash` have come to an end and found no data set, there is
+    nothing to unload."""
+    if not (answer.sets or hashes.files or answer.faults):
+        return
     for folder in (BLOCKS, TEXTS):
         os.mkdir(os.path.join(volume.folder, os.fsencode(folder)))
     blocks = Unload(answer, volume, hashes.files)

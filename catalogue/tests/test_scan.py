@@ -393,15 +393,17 @@ class Files(Case):
         self.assertEqual({it.name for it in self.folder.iterdir()}, set(names[1:]))
 
     def test_a_full_disk_is_not_the_fault_of_a_volume(self) -> None:
-        """It is asked again by the next scan, where nothing has changed."""
+        """It is asked again by the next scan, where nothing has changed. A volume without data sets is not unloaded."""
         failing = self.folder / "dasd"
         failing.write_text(FULL.format(program=program()), encoding="utf-8")
         failing.chmod(0o755)
         (self.folder / "1.ckd").write_bytes(plain(1))
+        (self.folder / "2.ckd").write_bytes(Volume.new("2311", 1).bytes())
+        paths = [os.fsencode(self.folder / it) for it in ("1.ckd", "2.ckd")]
         with mock.patch("dasd_catalogue.scan.version_of", return_value=""):
-            scan(Wanted(str(self.database), [os.fsencode(self.folder / "1.ckd")], Alone(), Way(str(failing)), is_silent=True))
+            scan(Wanted(str(self.database), paths, Alone(), Way(str(failing)), is_silent=True))
         self.assertEqual(self.rows("SELECT stage, text FROM faults"), [("here", "extract: write fault")])
-        self.assertEqual(self.states(), {"1.ckd": "volume"})
+        self.assertEqual(self.states(), {"1.ckd": "volume", "2.ckd": "volume"})
         self.assertEqual(scanned(self.database, []).asked, 1)
         self.assertEqual(self.rows("SELECT * FROM faults"), [])
         self.assertEqual(scanned(self.database, []).asked, 0)
