@@ -40,6 +40,8 @@ class Planted(unittest.TestCase):
 
     def make(self, script: str) -> Tuple[int, str]:
         """Calls a script with the tree; its status, and what it printed."""
+        if script == "make_wheels" and shutil.which("aarch64-linux-gnu-gcc") is None:
+            self.skipTest("no aarch64-linux-gnu-gcc here")
         how = {**os.environ, "SOURCE_DATE_EPOCH": "1700000000"}
         done = subprocess.run([str(RELEASE / script), str(self.tree), str(self.out)], env=how, capture_output=True, text=True, check=False)
         return done.returncode, done.stdout + done.stderr
