@@ -82,7 +82,7 @@ bool channel_save(DEVBLK *dev) {
     dasd_file shown;
     dasd_drive seen;
     if (dasd_show_file(&disks, dev->devnum, 0, &shown) < 0 || dasd_show_drive(&disks, dev->devnum, &seen) < 0) return true;
-    return save_tracks(dev, &unit_of(dev)->file, &shown, (size_t)seen.cylinder * (seen.model == 2311 ? 10 : 20), next_changed_of);
+    return save_tracks(dev, &unit_of(dev)->file, &shown, (size_t)seen.cylinder * heads_of(seen.model), next_changed_of);
 }
 
 /* --- What pends at Hercules --- */

@@ -59,7 +59,7 @@ static bool save(DEVBLK *dev, bool again) {
     if (dasd_drive_show_file(&m->alone, &shown) < 0 || dasd_drive_show(&m->alone, &seen) < 0) return false;
     if (shown.changes == m->tried && !again) return true;
     m->tried = shown.changes;
-    return save_tracks(dev, &m->file, &shown, (size_t)seen.cylinder * (seen.model == 2311 ? 10 : 20), next_changed_of);
+    return save_tracks(dev, &m->file, &shown, (size_t)seen.cylinder * heads_of(seen.model), next_changed_of);
 }
 
 /* --- The arm --- */
@@ -211,7 +211,7 @@ static void show_device(DEVBLK *dev, struct drive *m, const dasd_drive_seen *see
     dev->dev_data = m;
     dev->fd = m->file.fd;
     dev->ckdcyls = seen->cylinders;
-    dev->ckdheads = seen->model == 2311 ? 10 : 20;
+    dev->ckdheads = heads_of(seen->model);
     dev->numsense = sizeof seen->sense;
     dev->syncio = 1; /* no call waits for anything but its file */
     logmsg("HHCSX000I %4.4X %s: a %d of %d cylinders%s\n", dev->devnum, m->file.name, seen->model, seen->cylinders, how);

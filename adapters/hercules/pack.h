@@ -30,4 +30,11 @@ int pack_write(const pack *file, size_t at, const uint8_t *bytes, size_t len);
 /* Brings what was written to the disk, closes the file and with it the lock: 0, or the number of the error. A file that is not open stays. */
 int pack_close(pack *file);
 
+/* The tracks of a cylinder of a model. */
+static inline unsigned heads_of(unsigned model) {
+    /* c/interface.toml: begin */
+    return model == 2311 ? 10 : 20;
+    /* c/interface.toml: end */
+}
+
 #endif

@@ -34,6 +34,7 @@ WHOLE = {
 PARTS = {
     "c/dasd.hpp": ["dasd.hpp.jinja", "methods.hpp.jinja"],
     "c/dasd_drive.hpp": ["dasd_drive.hpp.jinja"],
+    "adapters/hercules/pack.h": ["pack.h.jinja"],
     "python/dasd/_library.py": ["_library.py.jinja"],
     "python/dasd/_subsystem.py": ["_subsystem.py.jinja"],
     "python/dasd/_words.py": ["_words.py.jinja"],
