@@ -31,7 +31,7 @@ int pack_write(const pack *file, size_t at, const uint8_t *bytes, size_t len);
 int pack_close(pack *file);
 
 /* The tracks of a cylinder of a model. */
-static inline unsigned heads_of(unsigned model) {
+static inline int heads_of(unsigned model) {
     /* c/interface.toml: begin */
     return model == 2311 ? 10 : 20;
     /* c/interface.toml: end */
