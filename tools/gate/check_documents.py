@@ -36,7 +36,7 @@ WORD = re.compile(r"(?:[A-Z]\w*::)?([A-Za-z_]\w*)")
 # The files of a change: its example in sources, and several paths in one.
 EXTENDING = "docs/EXTENDING.md"
 SOURCES = re.compile(r"<!-- sources: (.*) -->")
-BRACES = re.compile(r"(.*)\{(.*)\}(.*)")
+BRACES = re.compile(r"`([^`{]*)\{?([^`{}]*)\}?([^`}]*)`")
 
 
 class Findings:
@@ -143,41 +143,30 @@ def check_names(findings: Findings, page: Path, text: str) -> None:
                     findings.expect(name.group(1) in words, f"{page.relative_to(TOP)}: {code} is no name of the crate")
 
 
-def paths_of(cell: str) -> list[Path]:
-    """The files that a cell names, below the top."""
-    names = []
-    for code in CODE.findall(cell):
-        found = BRACES.fullmatch(code)
-        names += [found[1] + it + found[3] for it in found[2].split(",")] if found else [code]
-    return [TOP / it for it in names]
-
-
 def check_change(findings: Findings, part: str, sources: dict[Path, str]) -> None:
     """The files of a change are there, have its example, and are all."""
     listed: set[Path] = set()
-    for row in re.findall(r"^\| (`.*)\|$", part, re.MULTILINE):
-        cell, _, says = row.partition(" | ")
-        words = CODE.findall(says)[:1]
-        for path in paths_of(cell):
-            listed.add(path)
-            findings.expect(path.is_file(), f"{EXTENDING}: no file {path.relative_to(TOP)}")
-            text = path.read_text(encoding="utf-8") if path.is_file() else "".join(words)
-            findings.expect(all(it in text for it in words), f"{EXTENDING}: {path.relative_to(TOP)} has no {''.join(words)}")
-    for pattern in SOURCES.findall(part):
-        for path in sorted(it for it, text in sources.items() if re.search(pattern, text)):
-            findings.expect(path in listed, f"{EXTENDING}: {part.splitlines()[0]}: no row of {path.relative_to(TOP)}")
+    for cells, says in re.findall(r"^\| (`.*?`) \| (.*)$", part, re.MULTILINE):
+        word = (CODE.findall(says) or [""])[0]
+        for before, names, after in BRACES.findall(cells):
+            for path in (TOP / (before + name + after) for name in names.split(",")):
+                listed.add(path)
+                findings.expect(path.is_file(), f"{EXTENDING}: no file {path.relative_to(TOP)}")
+                has_it = not path.is_file() or word in path.read_text(encoding="utf-8")
+                findings.expect(has_it, f"{EXTENDING}: {path.relative_to(TOP)} has no {word}")
+    pattern, title = SOURCES.search(part), part.splitlines()[0]
+    findings.expect(bool(pattern), f"{EXTENDING}: {title}: no pattern of its sources")
+    for path in sorted(it for it, text in sources.items() if pattern and re.search(pattern[1], text)):
+        findings.expect(path in listed, f"{EXTENDING}: {title}: no row of {path.relative_to(TOP)}")
 
 
 def check_changes(findings: Findings) -> None:
     """The tables of docs/EXTENDING.md are those of this tree."""
-    page = TOP / EXTENDING
-    if not page.is_file():
-        return
-    found = [it for kind in ("src/**/*.rt", "specs/**/*.antt") for it in TOP.glob(f"crates/*/{kind}")]
-    sources = {it: it.read_text(encoding="utf-8") for it in found}
-    for part in page.read_text(encoding="utf-8").split("\n## ")[1:]:
-        check_change(findings, part, sources)
-        findings.expect(bool(SOURCES.search(part)), f"{EXTENDING}: {part.splitlines()[0]}: no pattern of its sources")
+    if (TOP / EXTENDING).is_file():
+        found = [it for kind in ("src/**/*.rt", "specs/**/*.antt") for it in TOP.glob(f"crates/*/{kind}")]
+        sources = {it: it.read_text(encoding="utf-8") for it in found}
+        for part in (TOP / EXTENDING).read_text(encoding="utf-8").split("\n## ")[1:]:
+            check_change(findings, part, sources)
 
 
 def check_rules(findings: Findings) -> None:

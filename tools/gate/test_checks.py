@@ -151,34 +151,28 @@ class WrongBodies(unittest.TestCase):
 class Edits(unittest.TestCase):
     """Which edits have their turn, and how long they are tried."""
 
-    EDITS = {crate: [Path(f"{crate}{it}.edit") for it in range(10)] for crate in ("low", "middle", "high", "quick", "slow")}
+    EDITS = {crate: [Path(f"{crate}{it}.edit") for it in range(10)] for crate in ("low", "high", "quick", "slow")}
 
-    def test_a_tenth_has_its_turn_and_each_edit_at_some_commit(self) -> None:
-        had: set[Path] = set()
-        for commit in range(200):
-            chosen = try_edits.turns(self.EDITS, f"commit {commit}")
-            self.assertEqual(sum(map(len, chosen.values())), 5)
-            self.assertEqual(chosen, try_edits.turns(self.EDITS, f"commit {commit}"))
-            had.update(*chosen.values())
-        self.assertEqual(len(had), 50)
-        self.assertEqual(sum(map(len, try_edits.turns({"low": self.EDITS["low"] * 10}, "commit").values())), try_edits.OF_CRATE)
+    def test_turns(self) -> None:
+        chosen = [try_edits.turns(self.EDITS, f"commit {it}") for it in range(200)]
+        self.assertEqual({sum(map(len, it.values())) for it in chosen}, {4})
+        self.assertEqual({edit for it in chosen for some in it.values() for edit in some}, {it for some in self.EDITS.values() for it in some})
+        self.assertEqual(len(try_edits.turns({"low": self.EDITS["low"] * 10}, "commit")["low"]), try_edits.OF_CRATE)
 
-    def tried(self, seconds: float, *crates: str) -> tuple[bool, list[str]]:
-        """What comes of these crates' edits, by a checker that lets those of `high` through and is slow at those of `slow`."""
+    def tried(self, seconds: float, *crates: str) -> tuple[bool, str]:
+        """What comes of edits of these crates, by a checker that lets those of `high` through and is slow at those of `slow`."""
         printed = io.StringIO()
         with tempfile.TemporaryDirectory() as folder:
-            write(folder, {"rt": '#!/bin/sh\ncase $2 in slow) exec sleep 60 ;; high) exit 1 ;; *) echo "$TMPDIR" >> "$2" ;; esac\n'})
+            write(folder, {"rt": '#!/bin/sh\ncase $2 in slow) exec sleep 60 ;; high) exit 1 ;; esac\n'})
             Path(folder, "rt").chmod(0o755)
-            path = {"PATH": f"{folder}:{os.environ['PATH']}"}
-            with mock.patch.dict(os.environ, path), contextlib.redirect_stdout(printed):
+            with mock.patch.dict(os.environ, {"PATH": f"{folder}:{os.environ['PATH']}"}), contextlib.redirect_stdout(printed):
                 is_right = try_edits.try_within(Path(folder), {it: self.EDITS[it][:2] for it in crates}, seconds)
-        return is_right, printed.getvalue().splitlines()
+        return is_right, printed.getvalue()
 
-    def test_edits_are_tried_within_the_time(self) -> None:
-        self.assertEqual(self.tried(60, "low", "quick"), (True, []))
-        self.assertEqual(self.tried(60, "low", "high", "quick"), (False, []))
-        left = "not tried in 1 seconds: slow/slow0, slow/slow1, low/low0, low/low1"
-        self.assertEqual(self.tried(1, "quick", "slow", "low"), (True, [left]))
+    def test_time(self) -> None:
+        self.assertEqual(self.tried(60, "low", "quick"), (True, ""))
+        self.assertEqual(self.tried(60, "low", "high", "quick"), (False, ""))
+        self.assertEqual(self.tried(2, "quick", "slow", "low"), (True, "not tried in 2 seconds: slow/slow0, slow/slow1, low/low0, low/low1\n"))
 
 
 class Clauses(unittest.TestCase):

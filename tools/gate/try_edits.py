@@ -8,18 +8,16 @@ They are in tools/edits/CRATE, in the form of those in crates/CRATE/must-fail, w
 a version is tagged. With names, those of these crates: by whoever changes one of them. What the crates use is proved first, as far as `rt lib`
 has not left it in this checkout; a crate with edits is checked from nothing once more, so all of them take about an hour and a half of processor time.
 
-With --by-commit, as the gate does after `rt ci`, which has just proved the libraries in this checkout, a tenth of the edits have their turn, a few of
-each crate: the commit says which, and in which order. After so many seconds no more are tried, and those that are left are named.
+With --by-commit, as the gate does after `rt ci`, whose libraries are in this checkout, the commit chooses a tenth of them, a few of each crate, and their
+order. After half of so many seconds no further crate is begun, after all of them the last one is ended, and what was left is named.
 
-All is done in a copy, and the repository stays as it is. Status 1 where an edit was let through, can't be applied or was not
-tried for another reason. With --texts nothing is tried: it is only looked whether each edit, the gate's too, still fits its file, in which each of its old
-texts is once.
+All is done in a copy, and the repository stays as it is. Status 1 where an edit was let through or can't be applied. With --texts nothing is tried: it is
+only looked whether each edit, the gate's too, still fits its file, in which each of its old texts is once.
 """
 
 import hashlib
 import os
 import shutil
-import signal
 import subprocess
 import sys
 import tempfile
@@ -34,6 +32,8 @@ from tools.gate import told
 EDITS = TOP / "tools" / "edits"
 # How many of the edits have their turn, one of so many; and how many of a crate at most, since it is checked from nothing for them.
 SHARE, OF_CRATE = 10, 5
+# How `timeout` ends that has killed.
+KILLED = (-9, 137)
 
 
 def unfit(edit: Path, crate: Path) -> str | None:
@@ -78,29 +78,22 @@ def put_file(source: str, target: str) -> None:
         shutil.copy2(source, target)
 
 
-def put_libraries(room: Path) -> None:
-    """Puts the libraries of this checkout where the kit looks for them, which takes those of today's files, by their stamps. Those of `rt ci` have none,
-    and fit no others."""
+def put_libraries(room: Path) -> bool:
+    """Puts the libraries of this checkout where the kit looks for them, which takes those of today's files, by their stamps; whether they have any. Those
+    of `rt ci` have none, and fit no others."""
     built = [it for it in (TOP / "crates").glob("*/out/rlib") if any(it.iterdir())]
-    for it in [it for it in built if (it / "stamp").is_file()] or built:
+    stamped = [it for it in built if (it / "stamp").is_file()]
+    for it in stamped or built:
         shutil.copytree(it, room / "crates" / it.parent.parent.name / "out" / "rlib", copy_function=put_file)
+    return bool(stamped)
 
 
 def stamp_libraries(room: Path, crates: Iterable[str]) -> None:
-    """Gives the libraries below these crates the stamps of today's files, if none has a stamp."""
-    if any(room.glob("crates/*/out/rlib/stamp")):
-        return
+    """Gives the libraries below these crates the stamps of today's files."""
     for crate in crates:
-        _, known = kit_crate(room / "crates" / crate, room)
-        for it in known.below():
+        for it in kit_crate(room / "crates" / crate, room)[1].below():
             if Path(it.rlib).is_dir():
                 (Path(it.rlib).parent / "stamp").write_text(it.stamp(), encoding="utf-8")
-
-
-def all_edits() -> dict[str, list[Path]]:
-    """The edits of each crate."""
-    crates = sorted(it for it in EDITS.iterdir() if it.is_dir())
-    return {it.name: sorted(it.glob("*.edit")) for it in crates}
 
 
 def turns(edits: dict[str, list[Path]], commit: str) -> dict[str, list[Path]]:
@@ -112,9 +105,10 @@ def turns(edits: dict[str, list[Path]], commit: str) -> dict[str, list[Path]]:
     chosen: dict[str, list[Path]] = {}
     left = -(-sum(map(len, edits.values())) // SHARE)
     for crate in sorted(edits, key=place):
-        chosen[crate] = sorted(edits[crate], key=lambda it: place(it.name))[: min(OF_CRATE, left)]
-        left -= len(chosen[crate])
-    return {crate: some for crate, some in chosen.items() if some}
+        if some := sorted(edits[crate], key=lambda it: place(it.name))[: min(OF_CRATE, left)]:
+            chosen[crate] = some
+            left -= len(some)
+    return chosen
 
 
 def put_edits(room: Path, edits: dict[str, list[Path]]) -> None:
@@ -126,32 +120,15 @@ def put_edits(room: Path, edits: dict[str, list[Path]]) -> None:
             shutil.copy2(edit, folder / edit.name)
 
 
-def try_all(room: Path, edits: dict[str, list[Path]]) -> bool:
-    """Tries edits in the copy; whether each was refused."""
-    return subprocess.run(["rt", "must-fail", *edits], cwd=room, check=False).returncode == 0
-
-
-def try_crate(room: Path, crate: str, seconds: float) -> bool | None:
-    """Tries a crate's edits; whether each was refused, or None where that takes longer."""
-    own = room / "tmp"
-    own.mkdir(exist_ok=True)
-    with subprocess.Popen(["rt", "must-fail", crate], cwd=room, env={**os.environ, "TMPDIR": str(own)}, start_new_session=True) as trying:
-        try:
-            return trying.wait(seconds) == 0
-        except subprocess.TimeoutExpired:
-            os.killpg(trying.pid, signal.SIGKILL)
-            return None
-
-
 def try_within(room: Path, edits: dict[str, list[Path]], seconds: float) -> bool:
-    """Tries the edits of one crate after another, and begins no further one once half of the seconds have gone by; whether each that was tried was
-    refused."""
-    began, is_right, left = time.monotonic(), True, []
+    """Tries the edits of one crate after another, as far as the time goes; whether each that was tried was refused."""
+    end, is_right, left = time.monotonic() + seconds, True, []
     for crate, some in edits.items():
-        gone = time.monotonic() - began
-        found = try_crate(room, crate, seconds - gone) if gone <= seconds / 2 else None
-        is_right &= found is not False
-        left += [f"{crate}/{it.stem}" for it in some if found is None]
+        rest = end - time.monotonic()
+        words = ["timeout", "--signal=KILL", f"{rest:.1f}", "rt", "must-fail", crate]
+        status = subprocess.run(words, cwd=room, check=False).returncode if rest > seconds / 2 else KILLED[0]
+        is_right &= status in (0, *KILLED)
+        left += [f"{crate}/{it.stem}" for it in some if status in KILLED]
     if left:
         print(f"not tried in {seconds:g} seconds: {', '.join(left)}")
     return is_right
@@ -159,26 +136,26 @@ def try_within(room: Path, edits: dict[str, list[Path]], seconds: float) -> bool
 
 def main() -> None:
     """Reads the words, and tries the edits in a copy."""
+    edits = {it.name: sorted(it.glob("*.edit")) for it in sorted(EDITS.iterdir()) if it.is_dir()}
+    seconds = 0
     match sys.argv[1:]:
         case ["--texts"]:
             sys.exit(look_at_texts())
-        case ["--by-commit", seconds] if seconds.isdigit():
-            commit = subprocess.run(["git", "rev-parse", "HEAD"], cwd=TOP, check=True, capture_output=True, text=True).stdout.strip()
-            edits, most = turns(all_edits(), commit), float(seconds)
-        case crates if not any(it.startswith("-") for it in crates):
-            edits, most = {crate: some for crate, some in all_edits().items() if crate in crates or not crates}, 0.0
-            if set(crates) - set(edits):
-                sys.exit(f"try_edits.py: no edits are in tools/edits for {', '.join(sorted(set(crates) - set(edits)))}")
-        case _:
-            sys.exit(__doc__)
+        case ["--by-commit", most] if most.isdigit():
+            commit = subprocess.run(["git", "rev-parse", "HEAD"], cwd=TOP, check=True, capture_output=True, text=True).stdout
+            edits, seconds = turns(edits, commit), int(most)
+        case crates:
+            if unknown := set(crates) - set(edits):
+                sys.exit(f"try_edits.py: no edits are in tools/edits for {', '.join(sorted(unknown))}")
+            edits = {it: edits[it] for it in crates or edits}
     with tempfile.TemporaryDirectory() as folder:
-        room = Path(folder)
+        room, os.environ["TMPDIR"] = Path(folder), folder
         copy_of(TOP, room)
-        put_libraries(room)
-        stamp_libraries(room, edits if most else ())
+        if not put_libraries(room) and seconds:
+            stamp_libraries(room, edits)
         put_edits(room, edits)
         print(f"{sum(map(len, edits.values()))} edits of {len(edits)} crates", flush=True)
-        is_right = try_within(room, edits, most) if most else try_all(room, edits)
+        is_right = try_within(room, edits, seconds) if seconds else not subprocess.run(["rt", "must-fail", *edits], cwd=room, check=False).returncode
     print(f"try_edits.py: {'all that were tried are refused' if is_right else 'not all are refused, as is said above'}")
     sys.exit(0 if is_right else 1)
 
