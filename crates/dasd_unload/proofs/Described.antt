@@ -1,7 +1,6 @@
 -- The text of a folder, as it is made.
-use Rattle.std.proofs.Common.{ℕ, zero, suc, ◌+◌, ◌-◌, ◌*◌, ◌<◌, ◌≤◌, ◌≡◌, ◌∙◌, List, [], ◌∷◌, ◌++◌}
-use Rattle.std.proofs.Common.{length, take, ap, ap₂, refl, sym, arith, append_assoc, append-nil}
-use Rattle.std.proofs.Common.{◌||◌, true, false, nat_lt, drop, slice_range, ◌⊎◌, inl, inr, Result, Ok, Err, OnOk}
+use Rattle.std.proofs.Common.{ℕ, zero, suc, ◌+◌, ◌-◌, ◌*◌, ◌<◌, ◌≤◌, ◌≡◌, ◌∙◌, List, [], ◌∷◌, ◌++◌, length, take, ap, refl, sym, arith}
+use Rattle.std.proofs.Common.{append_assoc, append-nil, ◌||◌, true, false, nat_lt, drop, slice_range, ◌⊎◌, inl, inr, Result, Ok, Err, OnOk}
 use Rattle.volume_labels.specs.declared.directories.DirectoryEntry.{DirectoryEntry}
 use Rattle.volume_labels.specs.declared.directories.DirectoryFault.{DirectoryFault}
 use Rattle.volume_labels.specs.declared.directories.DirectoryStep.{DirectoryStep}
@@ -12,8 +11,7 @@ use Rattle.set_forms.specs.Forms.{text_of, form_line}
 use Rattle.ckd_track.specs.declared.geometries.Geometry.{Geometry}
 use Rattle.volume_labels.specs.declared.fields.Extent.{Extent}
 use Rattle.dasd_unload.specs.Described.{block_size, blocks_within, note_form, note_forms, note_count, member_named, entry_form, entry_in}
-use Rattle.dasd_unload.specs.Described.{keyed_bytes}
-use Rattle.dasd_unload.specs.Described.{step_forms, forms_from}
+use Rattle.dasd_unload.specs.Described.{keyed_bytes, step_forms, forms_from}
 use Rattle.set_forms.specs.declared.forms.Note.{Note}
 use Rattle.std.proofs.Math.Bool.{or-true}
 use Rattle.std.proofs.lemmas.Bool.{le-ltb, lt-ltb}
@@ -51,8 +49,7 @@ too_short : (rest : List ℕ) → length rest < 4 → (nat_lt (length rest) 4 ||
 too_short rest short = rw (lt-ltb (length rest) 4 short) refl
 
 cut_short : (rest : List ℕ) → length rest < block_size rest → (nat_lt (length rest) 4 || nat_lt (length rest) (block_size rest)) ≡ true
-cut_short rest short =
-    ap (λ b. nat_lt (length rest) 4 || b) (lt-ltb (length rest) (block_size rest) short) ∙ or-true (nat_lt (length rest) 4)
+cut_short rest short = cc (lt-ltb (length rest) (block_size rest) short, or-true (nat_lt (length rest) 4))
 
 no_more : (count most : ℕ) (rest : List ℕ) (all : ℕ) → (nat_lt (length rest) 4 || nat_lt (length rest) (block_size rest)) ≡ true
     → count + blocks_within most rest ≡ all → count ≡ all
@@ -67,56 +64,41 @@ pub ends_cut : (count most : ℕ) (rest : List ℕ) (all size : ℕ) → size �
 ends_cut count most rest all size e short is = no_more count most rest all (cut_short rest (omega (arith, e, short))) is
 
 pub ends_whole : (count most : ℕ) (rest : List ℕ) (all : ℕ) → most ≡ 0 → count + blocks_within most rest ≡ all → count ≡ all
-ends_whole count most rest all e is =
-    let none : blocks_within most rest ≡ 0 = ap (λ m. blocks_within m rest) e ∙ no_blocks rest in omega (arith, is, none)
+ends_whole count most rest all e is = let none : blocks_within most rest ≡ 0 = cc (no_blocks rest) in omega arith
 
 pub goes_on : (count most fewer : ℕ) (rest : List ℕ) (all size : ℕ) → most ≡ suc fewer → 4 ≤ length rest → size ≡ block_size rest
     → size ≤ length rest → count + blocks_within most rest ≡ all
     → count + 1 + blocks_within fewer (take (length rest - size) (drop size rest)) ≡ all
 goes_on count most fewer rest all size e long s inside is =
     let whole : (nat_lt (length rest) 4 || nat_lt (length rest) (block_size rest)) ≡ false =
-    rw (le-ltb (length rest) 4 long) (le-ltb (length rest) (block_size rest) (omega (arith, s, inside))) in
-    let step : blocks_within most rest ≡ 1 + blocks_within fewer (drop (block_size rest) rest) =
-    ap (λ m. blocks_within m rest) e ∙ one_block_more rest fewer whole in
-    let left : take (length rest - size) (drop size rest) ≡ drop (block_size rest) rest =
-    take_rest rest size ∙ ap (λ n. drop n rest) s in
+    rw (le-ltb (length rest) 4 long) (le-ltb (length rest) (block_size rest) (omega arith)) in
+    let step : blocks_within most rest ≡ 1 + blocks_within fewer (drop (block_size rest) rest) = cc (one_block_more rest fewer whole) in
+    let left : take (length rest - size) (drop size rest) ≡ drop (block_size rest) rest = cc (take_rest rest size) in
     let same : blocks_within fewer (take (length rest - size) (drop size rest)) ≡ blocks_within fewer (drop (block_size rest) rest) =
     ap (λ l. blocks_within fewer l) left in
-    omega (arith, is, step, same)
+    omega arith
 
 -- one note more, as it was read
 pub more_notes : (extents : List Extent) (member user : List ℕ) (g : Geometry) (slots : List (List ℕ)) (k : ℕ) (found now : List Note)
-    (note : Note)
-    → now ≡ found ++ note ∷ [] → found ≡ note_forms extents member user g slots k
-    → note ≡ note_form extents member (slice_range user (k * 4) (k * 4 + 4)) g slots
-    → now ≡ note_forms extents member user g slots (k + 1)
-more_notes extents member user g slots k found now note is so_far this =
-    is ∙ ap₂ (λ (l : List Note) (n : Note). l ++ n ∷ []) so_far this ∙ one_note_more extents member user g slots k
+    (note : Note) → now ≡ found ++ note ∷ [] → found ≡ note_forms extents member user g slots k
+    → note ≡ note_form extents member (slice_range user (k * 4) (k * 4 + 4)) g slots → now ≡ note_forms extents member user g slots (k + 1)
+more_notes extents member user g slots k found now note is so_far this = cc (one_note_more extents member user g slots k)
 
 -- an entry without notes, and one with some
 module _ (extents : List Extent) (entries : List DirectoryEntry) (e : DirectoryEntry) (user : List ℕ) (g : Geometry) (slots : List
     (List ℕ)) where
   pub without_notes : (count : ℕ) → count ≡ note_count e user → count ≡ 0
       → entry_form e (member_named entries e) [] user ≡ entry_in extents entries e user g slots
-  without_notes count is none =
-      ap (λ (l : List Note). entry_form e (member_named entries e) l user)
-      (no_notes extents (keyed_bytes extents e.address g slots) user g slots)
-      ∙ ap (λ n. entry_form e (member_named entries e) (note_forms extents (keyed_bytes extents e.address g slots) user g slots n)
-      (drop (n * 4) user)) (sym none ∙ is)
+  without_notes count is none = cc (no_notes extents (keyed_bytes extents e.address g slots) user g slots)
 
   pub with_notes : (count : ℕ) (blocks : List ℕ) (notes : List Note) → count ≡ note_count e user
       → blocks ≡ keyed_bytes extents e.address g slots → notes ≡ note_forms extents blocks user g slots count
       → entry_form e (member_named entries e) notes (drop (count * 4) user) ≡ entry_in extents entries e user g slots
-  with_notes count blocks notes is read are =
-      ap (λ (l : List Note). entry_form e (member_named entries e) l (drop (count * 4) user)) are
-      ∙ ap (λ (b : List ℕ). entry_form e (member_named entries e) (note_forms extents b user g slots count) (drop (count * 4) user)) read
-      ∙ ap (λ n. entry_form e (member_named entries e) (note_forms extents (keyed_bytes extents e.address g slots) user g slots n)
-      (drop (n * 4) user)) is
+  with_notes count blocks notes is read are = cc
 
 -- A walk over the entries of a directory.
 module _ (form : DirectoryEntry → ℕ → FormLine) (bytes : List ℕ) where
-  more_steps : (most at : ℕ) → forms_from form (suc most) bytes at
-      ≡ step_forms form (step_at bytes at) (forms_from form most bytes)
+  more_steps : (most at : ℕ) → forms_from form (suc most) bytes at ≡ step_forms form (step_at bytes at) (forms_from form most bytes)
   unfolding forms_from
   more_steps most at = refl
 
@@ -126,16 +108,12 @@ module _ (form : DirectoryEntry → ℕ → FormLine) (bytes : List ℕ) where
 
   module _ (k at : ℕ) where
     pub last_step : length bytes ≤ k → forms_from form (length bytes - k) bytes at ≡ []
-    last_step passed =
-        let e : length bytes - k ≡ 0 = omega (arith, passed) in
-        ap (λ m. forms_from form m bytes at) e ∙ no_steps at
+    last_step passed = let e : length bytes - k ≡ 0 = omega (arith, passed) in ap (λ m. forms_from form m bytes at) e ∙ no_steps at
 
     pub this_step : (x : DirectoryStep) → step_at bytes at ≡ x → k < length bytes → forms_from form (length bytes - k) bytes at
         ≡ step_forms form x (forms_from form (length bytes - (k + 1)) bytes)
     this_step x are inside =
-        let e : length bytes - k ≡ suc (length bytes - (k + 1)) = omega (arith, inside) in
-        ap (λ m. forms_from form m bytes at) e ∙ more_steps (length bytes - (k + 1)) at
-        ∙ ap (λ x. step_forms form x (forms_from form (length bytes - (k + 1)) bytes)) are
+        let e : length bytes - k ≡ suc (length bytes - (k + 1)) = omega arith in cc (more_steps (length bytes - (k + 1)) at)
 
   -- the directory ends
   pub at_end : (x : DirectoryStep) → (x ≡ End) ⊎ ((f : DirectoryFault) × (x ≡ Fault f)) → (behind : ℕ → List FormLine)
@@ -155,6 +133,5 @@ none_left text whole forms none left = sym (append-nil text) ∙ ap (λ l. text 
 -- a form, and others behind it
 pub form_and : {A E : Type 0} (r : Result A E) (before between now : List ℕ) (f : FormLine) (rest : List FormLine)
     → between ≡ before ++ form_line f → OnOk r (now ≡ between ++ text_of rest) → OnOk r (now ≡ before ++ text_of (f ∷ rest))
-form_and (Ok _) before between now f rest first behind = behind ∙ ap (λ l. l ++ text_of rest) first
-    ∙ append_assoc before (form_line f) (text_of rest)
+form_and (Ok _) before between now f rest first behind = cc (append_assoc before (form_line f) (text_of rest))
 form_and (Err _) before between now f rest first behind = tt

@@ -20,8 +20,7 @@ names_member text name v extents members found named of_set is = record {
   name = name;
   named = named;
   members = members;
-  of_set =
-      of_set;
+  of_set = of_set;
   first = sym is;
 }
 

@@ -22,43 +22,29 @@ use Rattle.dasd_unload.specs.Volumes.{DoesOrStops, CountsReport, DoesOfVolume}
 module _ (u : Unloading) (steps : List Step) where
   -- none was done
   none : (a : Outcome) (t : Tally) → DoesUpTo steps u steps a a t t
-  none a t = record {
-    done = [];
-    in_order = refl;
-    written = sym (append-nil a.written);
-    printed = takes_nothing a.printed;
-    counted = refl;
-  }
+  none a t = record { done = []; in_order = refl; written = sym (append-nil a.written); printed = takes_nothing a.printed; counted = refl }
 
   -- some were done, and then others
   both : (left more rest : List Step) (a b c : Outcome) (s t w : Tally)
       → DoesUpTo (more ++ rest) u steps a b s t → DoesUpTo left u more b c t w → DoesUpTo (left ++ rest) u steps a c s w
-  both left more rest a b c s t w first next =
-      let step = λ (d : Done). d.step in
-      record {
-        done = first.done ++ next.done;
-        in_order =
-            ap (λ (l : List Step). l ++ (left ++ rest)) (map-append step first.done next.done)
-            ∙ append_assoc (map step first.done) (map step next.done) (left ++ rest)
-            ∙ ap (λ (l : List Step). map step first.done ++ l) (sym (append_assoc (map step next.done) left rest)
-            ∙ ap (λ (l : List Step). l ++ rest) next.in_order)
-            ∙ first.in_order;
-        written =
-            next.written
-            ∙ ap (λ (l : List Replaced). l ++ flat_map (files_of u) next.done) first.written
-            ∙ append_assoc a.written (flat_map (files_of u) first.done) (flat_map (files_of u) next.done)
-            ∙ ap (λ (l : List Replaced). a.written ++ l) (sym (flat_map-append (files_of u) first.done next.done));
-        printed =
-            subst (Takes a.printed c.printed) (sym (flat_map-append (text_of u) first.done next.done))
-            (takes_more a.printed b.printed c.printed _ _ first.printed next.printed);
-        counted = next.counted ∙ ap (λ (n : Tally). fold (counted_of u) n next.done) first.counted
-            ∙ sym (fold-append (counted_of u) s first.done next.done);
-      }
+  both left more rest a b c s t w first next = let step = λ (d : Done). d.step in record {
+    done = first.done ++ next.done;
+    in_order = ap (λ (l : List Step). l ++ (left ++ rest)) (map-append step first.done next.done)
+        ∙ append_assoc (map step first.done) (map step next.done) (left ++ rest)
+        ∙ ap (λ (l : List Step). map step first.done ++ l) (sym (append_assoc (map step next.done) left rest)
+        ∙ ap (λ (l : List Step). l ++ rest) next.in_order) ∙ first.in_order;
+    written = next.written ∙ ap (λ (l : List Replaced). l ++ flat_map (files_of u) next.done) first.written
+        ∙ append_assoc a.written (flat_map (files_of u) first.done) (flat_map (files_of u) next.done)
+        ∙ ap (λ (l : List Replaced). a.written ++ l) (sym (flat_map-append (files_of u) first.done next.done));
+    printed = subst (Takes a.printed c.printed) (sym (flat_map-append (text_of u) first.done next.done))
+        (takes_more a.printed b.printed c.printed _ _ first.printed next.printed);
+    counted = next.counted ∙ ap (λ (n : Tally). fold (counted_of u) n next.done) first.counted
+        ∙ sym (fold-append (counted_of u) s first.done next.done);
+  }
 
 module _ (f : UnloadFault) (u : Unloading) (steps : List Step) where
   -- a fault, behind some of them
-  stops : (rest : List Step) (a b : Outcome) (s t : Tally) → DoesUpTo rest u steps a b s t
-      → DoesSome f u steps a b
+  stops : (rest : List Step) (a b : Outcome) (s t : Tally) → DoesUpTo rest u steps a b s t → DoesSome f u steps a b
   stops rest a b s t d = record {
     done = d.done;
     rest = rest;
@@ -68,31 +54,24 @@ module _ (f : UnloadFault) (u : Unloading) (steps : List Step) where
   }
 
   -- a fault behind some of the steps that were left
-  stops_behind : (more rest : List Step) (a b c : Outcome) (s t : Tally)
-      → NoneFailed a.printed b.printed
+  stops_behind : (more rest : List Step) (a b c : Outcome) (s t : Tally) → NoneFailed a.printed b.printed
       → DoesUpTo (more ++ rest) u steps a b s t → DoesSome f u more b c → DoesSome f u steps a c
   stops_behind more rest a b c s t failed first next =
       let step = λ (d : Done). d.step in
-      let text = sym (flat_map-append (text_of u) first.done next.done) in
-      record {
+      let text = sym (flat_map-append (text_of u) first.done next.done) in record {
         done = first.done ++ next.done;
         rest = next.rest ++ rest;
-        in_order =
-            ap (λ (l : List Step). l ++ (next.rest ++ rest)) (map-append step first.done next.done)
+        in_order = ap (λ (l : List Step). l ++ (next.rest ++ rest)) (map-append step first.done next.done)
             ∙ append_assoc (map step first.done) (map step next.done) (next.rest ++ rest)
             ∙ ap (λ (l : List Step). map step first.done ++ l) (sym (append_assoc (map step next.done) next.rest rest)
-            ∙ ap (λ (l : List Step). l ++ rest) next.in_order)
-            ∙ first.in_order;
-        written =
-            next.written
-            ∙ ap (λ (l : List Replaced). l ++ flat_map (files_of u) next.done) first.written
+            ∙ ap (λ (l : List Step). l ++ rest) next.in_order) ∙ first.in_order;
+        written = next.written ∙ ap (λ (l : List Replaced). l ++ flat_map (files_of u) next.done) first.written
             ∙ append_assoc a.written (flat_map (files_of u) first.done) (flat_map (files_of u) next.done)
             ∙ ap (λ (l : List Replaced). a.written ++ l) (sym (flat_map-append (files_of u) first.done next.done));
         printed = record {
           front = subst (TakesFront a.printed c.printed) text (front_behind a.printed b.printed c.printed _ _ first.printed
               next.printed.front);
-          whole = λ e n.
-              subst (Takes a.printed c.printed) text (takes_more a.printed b.printed c.printed _ _ first.printed
+          whole = λ e n. subst (Takes a.printed c.printed) text (takes_more a.printed b.printed c.printed _ _ first.printed
               (next.printed.whole e (n ∙ sym failed)));
         };
       }
@@ -152,8 +131,7 @@ module _ (v : KnownVolume) (p : Plan) (steps : Unloading → List Step) where
 
   -- a fault, before any or behind some
   pub stop_here : {A : Type 0} (f : UnloadFault) (rest : Unloading → List Step) (a b : Outcome) (s t w : Tally)
-      → SoFar v p rest steps a b s t
-      → DoesOfVolume {A = A} (Err f) v p steps a b s w
+      → SoFar v p rest steps a b s t → DoesOfVolume {A = A} (Err f) v p steps a b s w
   stop_here f rest a b s t w d = record {
     counts = inl d.counts;
     does = λ slots known. stops f (unloading v slots p) (steps (unloading v slots p)) (rest (unloading v slots p)) a b s t
@@ -170,8 +148,7 @@ module _ (v : KnownVolume) (p : Plan) (steps : Unloading → List Step) where
   with_more more rest a b c s t w d this = record {
     counts = this.counts ∙ d.counts;
     does = λ slots known.
-        let u = unloading v slots p in
-        both u (steps u) [] (more u) (rest u) a b c s t w (d.does slots known) (this.does slots known);
+        let u = unloading v slots p in both u (steps u) [] (more u) (rest u) a b c s t w (d.does slots known) (this.does slots known);
   }
 
   -- a fault stopped these
@@ -187,32 +164,28 @@ module _ (v : KnownVolume) (p : Plan) (steps : Unloading → List Step) where
 
   -- the last of them
   pub with_last : (r : Result (Unit {0}) UnloadFault) (more : Unloading → List Step) (a b c : Outcome) (s t w : Tally)
-      → SoFar v p more steps a b s t
-      → DoesOfVolume r v p more b c t w → DoesOfVolume r v p steps a c s w
-  with_last r more a b c s t w d this =
-      last_of r (record {
-        counts = d.counts;
-        does = λ slots known.
-            let u = unloading v slots p in
-            subst (λ (l : List Step). DoesUpTo l u (steps u) a b s t) (sym (append-nil (more u))) (d.does slots known);
-      }) this where
-        last_of : (r : Result (Unit {0}) UnloadFault) → SoFar v p (λ u. more u ++ []) steps a b s t → DoesOfVolume r v p more b c t w
-            → DoesOfVolume r v p steps a c s w
-        last_of (Ok tt) d this = finished a c s w (with_more more (λ u. []) a b c s t w d this)
-        last_of (Err f) d this = stop_in f more (λ u. []) a b c s t w w d this
+      → SoFar v p more steps a b s t → DoesOfVolume r v p more b c t w → DoesOfVolume r v p steps a c s w
+  with_last r more a b c s t w d this = last_of r (record {
+    counts = d.counts;
+    does = λ slots known.
+        let u = unloading v slots p in
+        subst (λ (l : List Step). DoesUpTo l u (steps u) a b s t) (sym (append-nil (more u))) (d.does slots known);
+  }) this where
+    last_of : (r : Result (Unit {0}) UnloadFault) → SoFar v p (λ u. more u ++ []) steps a b s t → DoesOfVolume r v p more b c t w
+        → DoesOfVolume r v p steps a c s w
+    last_of (Ok tt) d this = finished a c s w (with_more more (λ u. []) a b c s t w d this)
+    last_of (Err f) d this = stop_in f more (λ u. []) a b c s t w w d this
 
 -- a fault came before anything did
 pub gave_up : {A : Type 0} (f : UnloadFault) (v : KnownVolume) (p : Plan) (steps : Unloading → List Step) (files now : List Replaced)
-    (a : Stream) (t w : Tally)
-    → now ≡ files → DoesOfVolume {A = A} (Err f) v p steps (outcome files a) (outcome now a) t w
+    (a : Stream) (t w : Tally) → now ≡ files → DoesOfVolume {A = A} (Err f) v p steps (outcome files a) (outcome now a) t w
 gave_up {A = A} f v p steps files now a t w e =
     subst (λ (l : List Replaced). DoesOfVolume {A = A} (Err f) v p steps (outcome files a) (outcome l a) t w) (sym e)
     (stop_here v p steps {A = A} f steps (outcome files a) (outcome files a) t t w (nothing v p steps (outcome files a) t))
 
 -- the same steps, said otherwise
 pub same : {A : Type 0} (r : Result A UnloadFault) (v : KnownVolume) (p : Plan) (steps others : Unloading → List Step) (a b : Outcome)
-    (t w : Tally)
-    → ((slots : List (List ℕ)) → v.slots ≡ Some slots → steps (unloading v slots p) ≡ others (unloading v slots p))
+    (t w : Tally) → ((slots : List (List ℕ)) → v.slots ≡ Some slots → steps (unloading v slots p) ≡ others (unloading v slots p))
     → DoesOfVolume {A = A} r v p steps a b t w → DoesOfVolume {A = A} r v p others a b t w
 same {A = A} r v p steps others a b t w e d = record {
   counts = d.counts;
@@ -226,8 +199,7 @@ pub same_rest : (v : KnownVolume) (p : Plan) (rest others steps : Unloading → 
 same_rest v p rest others steps a b t w e d = record {
   counts = d.counts;
   does = λ slots known.
-      let u = unloading v slots p in
-      subst (λ (l : List Step). DoesUpTo l u (steps u) a b t w) (e slots known) (d.does slots known);
+      let u = unloading v slots p in subst (λ (l : List Step). DoesUpTo l u (steps u) a b t w) (e slots known) (d.does slots known);
 }
 
 pub of_steps : (v : KnownVolume) (p : Plan) (rest steps others : Unloading → List Step) (a b : Outcome) (t w : Tally)
@@ -236,8 +208,7 @@ pub of_steps : (v : KnownVolume) (p : Plan) (rest steps others : Unloading → L
 of_steps v p rest steps others a b t w e d = record {
   counts = d.counts;
   does = λ slots known.
-      let u = unloading v slots p in
-      subst (λ (l : List Step). DoesUpTo (rest u) u l a b t w) (e slots known) (d.does slots known);
+      let u = unloading v slots p in subst (λ (l : List Step). DoesUpTo (rest u) u l a b t w) (e slots known) (d.does slots known);
 }
 
 -- The steps of the elements of a list, in order, which are left of all steps.
@@ -264,7 +235,5 @@ module _ {X : Type 0} (v : KnownVolume) (p : Plan) (steps : Unloading → List S
 
   -- no element is left
   pub all : length xs ≤ i → DoesOfVolume {A = Unit {0}} (Ok tt) v p steps a b s t
-  all passed =
-      finished v p steps a b s t
-      (same_rest v p (λ u. flat_map (f u) (drop i xs)) (λ u. []) steps a b s t
+  all passed = finished v p steps a b s t (same_rest v p (λ u. flat_map (f u) (drop i xs)) (λ u. []) steps a b s t
       (λ slots known. ap (flat_map (f (unloading v slots p))) (drop_all i xs passed)) so_far)

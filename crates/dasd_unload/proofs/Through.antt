@@ -22,7 +22,4 @@ module _ (w : Geometry → List (List ℕ) → Written) (v : KnownVolume) (stop 
   pub through : (start filled out : List ℕ) → start ≡ [] → out ≡ filled → WritesOf (Some start) (Some filled)
       → WritesOf (Some []) (Some out)
   through start filled out none all e = λ slots known.
-      let it = e slots known in record {
-        bytes = all ∙ it.bytes ∙ ap (λ l. l ++ (w v.geometry slots).bytes) none;
-        stop = it.stop;
-      }
+      let it = e slots known in record { bytes = all ∙ it.bytes ∙ ap (λ l. l ++ (w v.geometry slots).bytes) none; stop = it.stop }

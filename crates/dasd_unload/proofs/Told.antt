@@ -21,12 +21,9 @@ then_told (Err f) first next a b c told this = (front_behind a b c first next to
 
 -- findings were told, and then the next ones
 pub then_findings : {A : Type 0} (r : Result A UnloadFault) (json : Option (List ℕ)) (name : List ℕ) (first next : List (List ℕ))
-    (a b c : Stream)
-    → Takes a b (flat_map (line_text json) (finding_lines name first)) × NoneFailed a b
+    (a b c : Stream) → Takes a b (flat_map (line_text json) (finding_lines name first)) × NoneFailed a b
     → TellsText r (flat_map (line_text json) (finding_lines name next)) b c
     → TellsText r (flat_map (line_text json) (finding_lines name (first ++ next))) a c
-then_findings r json name first next a b c told this =
-    subst (λ text. TellsText r text a c)
-    (sym (ap (flat_map (line_text json)) (map-append (FindingLine name) first next)
-    ∙ flat_map-append (line_text json) (finding_lines name first) (finding_lines name next)))
+then_findings r json name first next a b c told this = subst (λ text. TellsText r text a c)
+    (sym (cc (map-append (FindingLine name) first next, flat_map-append (line_text json) (finding_lines name first) (finding_lines name next))))
     (then_told r _ _ a b c told this)

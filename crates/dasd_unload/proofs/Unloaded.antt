@@ -1,7 +1,6 @@
 -- The steps of a volume, as they were done.
 use Rattle.std.proofs.Common.{◌≡◌, ◌∙◌, inl, inr, sym, refl, ap, subst, ℕ, Bool, true, false, if◌then◌else◌, List, [], ◌∷◌, ◌++◌, map}
-use Rattle.std.proofs.Common.{codes}
-use Rattle.std.proofs.Common.{length, Option, Some, None, Result, Ok, Err, IfOk, OnOk, append-nil}
+use Rattle.std.proofs.Common.{codes, length, Option, Some, None, Result, Ok, Err, IfOk, OnOk, append-nil}
 use Rattle.std.specs.List.{flat_map, fold}
 use Rattle.std.proofs.lemmas.List.Concat.{flat_map_single}
 use Rattle.counted_io.specs.Streams.{Stream, Takes, TakesFront}
@@ -10,15 +9,12 @@ use Rattle.volume_labels.specs.declared.fields.Extent.{Extent}
 use Rattle.volume_labels.specs.declared.blocks.DataSetBlock.{DataSetBlock}
 use Rattle.volume_labels.specs.Labels.{data_set_block_of}
 use Rattle.volume_labels.specs.declared.directories.DirectoryEntry.{DirectoryEntry}
-use Rattle.volume_labels.specs.declared.directories.DirectoryFault.{DirectoryFault}
-use Rattle.volume_labels.specs.Directories.{entries_of}
 use Rattle.dasd_volumes.specs.Reading.{KnownVolume}
 use Rattle.dasd_volumes.proofs.Fronts.{front_behind}
 use Rattle.volume_contents.specs.declared.blocks.Block.{Block}
 use Rattle.volume_contents.specs.declared.chains.ChainFault.{ChainFault}
 use Rattle.volume_contents.specs.declared.sets.DataSet.{DataSet}
 use Rattle.volume_contents.specs.declared.reading.Contents.{Contents}
-use Rattle.volume_contents.specs.declared.findings.Finding.{Finding}
 use Rattle.volume_contents.specs.Contents.{IsContents, contents_of}
 use Rattle.volume_contents.specs.Sets.{DataSetOf, is_data_set, extents_behind, behind_block}
 use Rattle.dasd_extract.specs.declared.blocks.ExtractedForm.{ExtractedForm}
@@ -38,10 +34,8 @@ use Rattle.dasd_unload.specs.Asked.{form_of, beginning}
 use Rattle.dasd_unload.specs.Told.{Line, FileLine, FindingLine, finding_lines, line_text, count_line, no_line, total_text, contents_texts}
 use Rattle.dasd_unload.specs.Told.{chain_texts, directory_texts, end_texts, TellsText}
 use Rattle.dasd_unload.specs.Volumes.{Plan, Unloading, unloading, Step, Unload, Tell, Describe, Done, path_in, member_step}
-use Rattle.dasd_unload.specs.Volumes.{partitioned_steps}
-use Rattle.dasd_unload.specs.Volumes.{steps_of_form, set_steps, block_steps, table_steps, volume_steps, unloaded_lines, DoesOfVolume}
-use Rattle.dasd_unload.specs.Volumes.{UnloadsKnown}
-use Rattle.dasd_unload.specs.Volumes.{UnloadsVolume}
+use Rattle.dasd_unload.specs.Volumes.{partitioned_steps, steps_of_form, set_steps, block_steps, table_steps, volume_steps, unloaded_lines}
+use Rattle.dasd_unload.specs.Volumes.{DoesOfVolume, UnloadsKnown, UnloadsVolume}
 use Rattle.dasd_unload.proofs.Steps.{SoFar, one, counts_told, nothing, finished, with_more, stop_in, with_last, same, of_steps}
 
 abbrev Result0 : Type 0
@@ -89,8 +83,7 @@ told_lines name d bytes stop = FileLine name bytes ∷ finding_lines name (writt
 
 module _ (r : Result0) (v : KnownVolume) (p : Plan) (name : List ℕ) where
   pub came : (path : List ℕ) (source : Wanted) (d : DataSetBlock) (before now : List Replaced) (x : Unloaded)
-      (a b : Stream) (s t : Tally)
-      → path ≡ path_in p.folder name → Unloads path source v before now x
+      (a b : Stream) (s t : Tally) → path ≡ path_in p.folder name → Unloads path source v before now x
       → TellsText r (flat_map (line_text p.json) (told_lines name d x.bytes (Some x.stop))) a b
       → OnOk r (t ≡ fold count_line s (told_lines name d x.bytes (Some x.stop)))
       → DoesOfVolume r v p (λ u. Unload name source d ∷ []) (outcome before a) (outcome now b) s t
@@ -99,12 +92,9 @@ module _ (r : Result0) (v : KnownVolume) (p : Plan) (name : List ℕ) where
     does = λ slots known.
         let w = source_written source v.geometry slots in
         let e = file.blocks slots known in
-        let lines : told_lines name d x.bytes (Some x.stop) ≡ unloaded_lines name d w =
-        ap (λ n. told_lines name d n (Some x.stop)) (file.count ∙ ap (λ (l : List ℕ). length l) e.bytes)
-        ∙ ap (told_lines name d (length w.bytes)) e.stop in
+        let lines : told_lines name d x.bytes (Some x.stop) ≡ unloaded_lines name d w = cc in
         one r (unloading v slots p) (record { step = Unload name source d; is_kept_out = false }) (outcome before a) (outcome now b) s t
-        (file.put ∙ ap (λ (q : List ℕ). with_file before q file.bytes) at
-        ∙ ap (λ (l : List ℕ). with_file before (path_in p.folder name) l) e.bytes)
+        (cc)
         (subst (λ l. TellsText r (flat_map (line_text p.json) l) a b) lines told)
         (subst (λ l. OnOk r (t ≡ fold count_line s l)) lines counted);
   }
@@ -115,15 +105,13 @@ module _ (v : KnownVolume) (p : Plan) (blocks : List Block) (text : List ℕ) (i
   describe_steps u = Describe (described blocks u.volume.geometry u.slots) ∷ []
 
   pub described_step : (path : List ℕ) (files now : List Replaced) (a : Stream) (t : Tally) → path ≡ path_in p.folder text_name
-      → now ≡ with_file files path text
-      → DoesOfVolume {A = Unit {0}} (Ok tt) v p describe_steps (outcome files a) (outcome now a) t t
+      → now ≡ with_file files path text → DoesOfVolume {A = Unit {0}} (Ok tt) v p describe_steps (outcome files a) (outcome now a) t t
   described_step path files now a t at put = record {
     counts = refl;
     does = λ slots known.
         one (Ok tt) (unloading v slots p) (record { step = Describe (described blocks v.geometry slots); is_kept_out = false })
         (outcome files a) (outcome now a) t t
-        (put ∙ ap (λ (q : List ℕ). with_file files q text) at
-        ∙ ap (λ (l : List ℕ). with_file files (path_in p.folder text_name) l) (is slots known))
+        (cc (is slots known))
         (takes_nothing a, refl) refl;
   }
 
@@ -153,8 +141,7 @@ table_done r v p blocks a b c s t w sets text =
 pub table_stopped : (f : UnloadFault) (v : KnownVolume) (p : Plan) (blocks : List Block) (a b : Outcome) (s t : Tally)
     → DoesOfVolume {A = Unit {0}} (Err f) v p (λ u. flat_map (block_steps u blocks) blocks) a b s t
     → DoesOfVolume {A = Unit {0}} (Err f) v p (λ u. table_steps u blocks) a b s t
-table_stopped f v p blocks a b s t sets =
-    stop_in v p (λ u. table_steps u blocks) f (λ u. flat_map (block_steps u blocks) blocks)
+table_stopped f v p blocks a b s t sets = stop_in v p (λ u. table_steps u blocks) f (λ u. flat_map (block_steps u blocks) blocks)
     (λ u. Describe (described blocks u.volume.geometry u.slots) ∷ []) a a b s s t t (nothing v p (λ u. table_steps u blocks) a s) sets
 
 -- The steps of a directory.
@@ -175,19 +162,12 @@ module _ (v : KnownVolume) (p : Plan) (d : DataSetBlock) (extents : List Extent)
   are_steps slots known =
       let w = source_written (directory extents) v.geometry slots in
       let k = is slots known in
-      let step = member_step d extents form in
-      ap (λ (l : List Step). Tell (file_name d.name None) told_texts ∷ l)
-      (flat_map_single step m.entries.items ∙ ap (map step) k.entries)
-      ∙ ap (λ (f : Option DirectoryFault). Tell (file_name d.name None) (directory_texts f ++ end_texts (Some m.stop)) ∷ map step
-      (entries_of w.bytes).entries) k.fault
-      ∙ ap (λ (o : Option Stop). Tell (file_name d.name None) (directory_texts (entries_of w.bytes).fault ++ end_texts o) ∷ map step
-      (entries_of w.bytes).entries) k.stop
+      let step = member_step d extents form in cc (flat_map_single step m.entries.items)
 
   -- what is wrong with it was told, and the members are left; or a fault stopped that
   module _ (entries : List DirectoryEntry) (are : entries ≡ m.entries.items) (files : List Replaced) (a b : Stream) (s t : Tally) where
     pub directory_told : TellsText {A = Unit {0}} (Ok tt) (flat_map (line_text p.json)
-        (finding_lines (file_name d.name None) told_texts)) a b
-        → t ≡ fold count_line s (finding_lines (file_name d.name None) told_texts)
+        (finding_lines (file_name d.name None) told_texts)) a b → t ≡ fold count_line s (finding_lines (file_name d.name None) told_texts)
         → SoFar v p (λ u. flat_map (of_entry u) entries) (λ u. partitioned_steps u d extents form) (outcome files a)
         (outcome files b) s t
     directory_told told counted =
@@ -219,10 +199,8 @@ module _ (r : Result0) (v : KnownVolume) (p : Plan) (d : DataSetBlock) (extents 
 
   pub of_kind : (form : ExtractedForm) (is : Bool) → is_partitioned d ≡ is
       → DoesOfVolume r v p (λ u. if is then partitioned_steps u d extents form else Unload (file_name d.name None)
-      (wanted form extents beginning 65535) d ∷ []) a b s t
-      → DoesOfVolume r v p (λ u. steps_of_form u d extents (Some form)) a b s t
-  of_kind form is e this =
-      subst (λ (yes : Bool). DoesOfVolume r v p
+      (wanted form extents beginning 65535) d ∷ []) a b s t → DoesOfVolume r v p (λ u. steps_of_form u d extents (Some form)) a b s t
+  of_kind form is e this = subst (λ (yes : Bool). DoesOfVolume r v p
       (λ u. if yes then partitioned_steps u d extents form else Unload (file_name d.name None) (wanted form extents beginning 65535)
       d ∷ []) a b s t) (sym e) this
 
@@ -243,8 +221,7 @@ module _ (v : KnownVolume) (p : Plan) (d : DataSetBlock) (extents : List Extent)
       → t ≡ fold count_line s (finding_lines (file_name d.name None) (chain_texts fault)) → form_of d p.block_form ≡ form
       → DoesOfVolume r v p (λ u. steps_of_form u d extents form) (outcome files b) c t w
       → DoesOfVolume r v p (λ u. set_steps u d extents fault) (outcome files a) c s w
-  set_done r form c w told counted is this =
-      with_last v p all_steps r rest_steps (outcome files a) (outcome files b) c s t w
+  set_done r form c w told counted is this = with_last v p all_steps r rest_steps (outcome files a) (outcome files b) c s t w
       (with_more v p all_steps told_first rest_steps (outcome files a) (outcome files a) (outcome files b) s s t
       (nothing v p all_steps (outcome files a) s)
       (tell (Ok tt) v p (file_name d.name None) files a b s t (chain_texts fault) told counted))
@@ -253,8 +230,7 @@ module _ (v : KnownVolume) (p : Plan) (d : DataSetBlock) (extents : List Extent)
   pub set_stopped : (f : UnloadFault) → TellsText {A = Unit {0}} (Err f)
       (flat_map (line_text p.json) (finding_lines (file_name d.name None) (chain_texts fault))) a b
       → DoesOfVolume {A = Unit {0}} (Err f) v p (λ u. set_steps u d extents fault) (outcome files a) (outcome files b) s t
-  set_stopped f told =
-      stop_in v p all_steps f told_first rest_steps (outcome files a) (outcome files a) (outcome files b) s s t t
+  set_stopped f told = stop_in v p all_steps f told_first rest_steps (outcome files a) (outcome files a) (outcome files b) s s t t
       (nothing v p all_steps (outcome files a) s)
       (tell (Err f) v p (file_name d.name None) files a b s t (chain_texts fault) told tt)
 
@@ -262,18 +238,15 @@ module _ (v : KnownVolume) (p : Plan) (d : DataSetBlock) (extents : List Extent)
 module _ (r : Result0) (v : KnownVolume) (p : Plan) (blocks : List Block) (k : Block) (a b : Outcome) (s t : Tally) where
   either : (is : Bool) → is_data_set k.kind ≡ is
       → DoesOfVolume r v p (λ u. if is then set_steps u (data_set_block_of k.key k.bytes) (extents_behind blocks k)
-      (behind_block blocks k).fault else []) a b s t
-      → DoesOfVolume r v p (λ u. block_steps u blocks k) a b s t
-  either is e this =
-      subst (λ (yes : Bool). DoesOfVolume r v p
+      (behind_block blocks k).fault else []) a b s t → DoesOfVolume r v p (λ u. block_steps u blocks k) a b s t
+  either is e this = subst (λ (yes : Bool). DoesOfVolume r v p
       (λ u. if yes then set_steps u (data_set_block_of k.key k.bytes) (extents_behind blocks k) (behind_block blocks k).fault else []) a
       b s t) (sym e) this
 
   pub of_block : (d : DataSet) → is_data_set k.kind ≡ true → DataSetOf blocks k d
       → DoesOfVolume r v p (λ u. set_steps u d.block d.extents.items d.fault) a b s t
       → DoesOfVolume r v p (λ u. block_steps u blocks k) a b s t
-  of_block d is of this =
-      either true is
+  of_block d is of this = either true is
       (subst (λ (f : Option ChainFault). DoesOfVolume r v p (λ u. set_steps u (data_set_block_of k.key k.bytes) (extents_behind blocks k)
       f) a b s t) of.fault
       (subst (λ (l : List Extent). DoesOfVolume r v p (λ u. set_steps u (data_set_block_of k.key k.bytes) l d.fault) a b s t) of.extents
@@ -285,18 +258,13 @@ no_block v p blocks k a t is = either (Ok tt) v p blocks k a a t t false is (fin
 
 -- The steps of a volume are those that its contents say.
 module _ (v : KnownVolume) (p : Plan) (m : Contents) (is : IsContents v m) where
-  pub are_volume_steps : (slots : List (List ℕ)) → v.slots ≡ Some slots
-      → let u = unloading v slots p in
+  pub are_volume_steps : (slots : List (List ℕ)) → v.slots ≡ Some slots → let u = unloading v slots p in
       Tell (codes "volume table of contents") (contents_texts (length m.found.findings.items)) ∷ table_steps u m.found.blocks.items
       ≡ volume_steps u
   are_volume_steps slots known =
       let u = unloading v slots p in
       let k = is slots known in
-      let said = contents_of v.geometry slots in
-      ap (λ (l : List Block). Tell (codes "volume table of contents") (contents_texts (length m.found.findings.items)) ∷ table_steps u l)
-      k.blocks
-      ∙ ap (λ (l : List Finding). Tell (codes "volume table of contents") (contents_texts (length l))
-      ∷ table_steps u said.blocks) k.findings
+      let said = contents_of v.geometry slots in cc
 
   -- of the table it was told if something is wrong, and its data sets were unloaded; or a fault stopped that
   module _ (files : List Replaced) (a b : Stream) (s t : Tally) where
@@ -316,8 +284,7 @@ module _ (v : KnownVolume) (p : Plan) (m : Contents) (is : IsContents v m) where
         → TellsText {A = Unit {0}} (Ok tt) (flat_map (line_text p.json) (finding_lines the_name the_texts)) a b
         → t ≡ fold count_line s (finding_lines the_name the_texts) → DoesOfVolume r v p the_sets (outcome files b) c t w
         → DoesOfVolume r v p volume_steps (outcome files a) c s w
-    contents_done r c w told counted this =
-        same r v p the_steps volume_steps (outcome files a) c s w are_volume_steps
+    contents_done r c w told counted this = same r v p the_steps volume_steps (outcome files a) c s w are_volume_steps
         (with_last v p the_steps r the_sets (outcome files a) (outcome files b) c s t w
         (with_more v p the_steps (λ u. Tell the_name the_texts ∷ []) the_sets (outcome files a) (outcome files a) (outcome files b) s s t
         (nothing v p the_steps (outcome files a) s)
@@ -326,8 +293,7 @@ module _ (v : KnownVolume) (p : Plan) (m : Contents) (is : IsContents v m) where
     pub contents_stopped : (f : UnloadFault) → TellsText {A = Unit {0}} (Err f)
         (flat_map (line_text p.json) (finding_lines the_name the_texts)) a b
         → DoesOfVolume {A = Unit {0}} (Err f) v p volume_steps (outcome files a) (outcome files b) s t
-    contents_stopped f told =
-        same (Err f) v p the_steps volume_steps (outcome files a) (outcome files b) s t are_volume_steps
+    contents_stopped f told = same (Err f) v p the_steps volume_steps (outcome files a) (outcome files b) s t are_volume_steps
         (stop_in v p the_steps f (λ u. Tell the_name the_texts ∷ []) the_sets (outcome files a) (outcome files a) (outcome files b) s s t
         t (nothing v p the_steps (outcome files a) s)
         (tell (Err f) v p the_name files a b s t the_texts told tt))
@@ -338,8 +304,7 @@ module _ (v : KnownVolume) (p : Plan) (a b : Outcome) (c : Stream) (t : Tally)
   pub reported : (n : ℕ) → Takes b.printed c (total_text p.json t) → n ≡ t.findings → UnloadsKnown (Ok n) v p a (outcome b.written c)
   reported n last is = λ slots known.
       let u = unloading v slots p in
-      let k = d.does slots known in
-      record {
+      let k = d.does slots known in record {
         done = k.done;
         in_order = sym (append-nil (map (λ (x : Done). x.step) k.done)) ∙ k.in_order;
         written = k.written;
@@ -351,8 +316,7 @@ module _ (v : KnownVolume) (p : Plan) (a b : Outcome) (c : Stream) (t : Tally)
 
   pub not_reported : (f : UnloadFault) → TakesFront b.printed c (total_text p.json t) → UnloadsKnown (Err f) v p a (outcome b.written c)
   not_reported f last = λ slots known.
-      let k = d.does slots known in
-      inr (record {
+      let k = d.does slots known in inr (record {
         done = k.done;
         in_order = sym (append-nil (map (λ (x : Done). x.step) k.done)) ∙ k.in_order;
         written = k.written;
@@ -370,16 +334,13 @@ module _ (as_far : Bool) (paths : List (List ℕ)) (p : Plan) (opened_before ope
   is_of P so = record { geometry = x.geometry; contents = x.contents; opens = opens; mounts = mounts; so = so }
 
   pub volume_ended : (r : Result ℕ UnloadFault) (c : Stream) → DoesOfVolume {A = Unit {0}} (Ok tt) (volume_in x.geometry x.contents) p
-      volume_steps a b no_line t
-      → TellsText r (total_text p.json t) b.printed c → IfOk r (λ n. n ≡ t.findings)
+      volume_steps a b no_line t → TellsText r (total_text p.json t) b.printed c → IfOk r (λ n. n ≡ t.findings)
       → UnloadsVolume as_far r paths p opened_before opened a (outcome b.written c)
   volume_ended (Ok n) c d last is =
       is_of (λ v. UnloadsKnown (Ok n) v p a (outcome b.written c)) (reported (volume_in x.geometry x.contents) p a b c t d n last.0 is)
-  volume_ended (Err f) c d last is =
-      inr (is_of (λ v. UnloadsKnown (Err f) v p a (outcome b.written c))
+  volume_ended (Err f) c d last is = inr (is_of (λ v. UnloadsKnown (Err f) v p a (outcome b.written c))
       (not_reported (volume_in x.geometry x.contents) p a b c t d f last.0))
 
   pub volume_stopped : (f : UnloadFault) → DoesOfVolume {A = Unit {0}} (Err f) (volume_in x.geometry x.contents) p volume_steps a b
-      no_line t
-      → UnloadsVolume as_far (Err f) paths p opened_before opened a b
+      no_line t → UnloadsVolume as_far (Err f) paths p opened_before opened a b
   volume_stopped f d = inr (is_of (λ v. UnloadsKnown (Err f) v p a b) (λ slots known. inl (d.does slots known)))

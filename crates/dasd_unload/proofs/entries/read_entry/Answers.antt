@@ -4,8 +4,7 @@ use Rattle.dasd_unload.proofs.Described.{without_notes, with_notes}
 use Rattle.dasd_unload.proofs.entries.read_entry.Goals as goal
 
 pub returns-then-count-eq0-clause-form : goal.returns-then-count-eq0-clause-form
-returns-then-count-eq0-clause-form g c = λ slots known.
-    rw (c.member_named-member.ensures, c.new.ensures) at c.entry_form.ensures
+returns-then-count-eq0-clause-form g c = λ slots known. rw (c.member_named-member.ensures, c.new.ensures) at c.entry_form.ensures
     ∙ without_notes c.args.library.extents.now c.args.library.entries.now c.args.entry c.args.user.now _ slots _
     c.note_count-count.ensures.value c.if-count-eq0.true
 

@@ -10,13 +10,10 @@ loop-i-init g c = rw c.new-found.ensures record {
 }
 
 pub loop-i-preserved : goal.loop-i-preserved
-loop-i-preserved g c =
-    let this = rw c.loop-i.invariant.kept at c.in_ok-note.ensures.note in
-    record {
-      notes = λ slots known.
-          more_notes c.args.library.extents.now c.args.member.now c.args.notes.now _ slots c.loop-i.i
-          c.loop-i.found.items _ c.in_ok-note.note
-          c.push.ensures.items (c.loop-i.invariant.notes slots known) (this slots known);
-      count = c.push.ensures.len ∙ ap (λ n. n + 1) c.loop-i.invariant.count;
-      kept = c.read_note.ensures.kept ∙ c.loop-i.invariant.kept;
-    }
+loop-i-preserved g c = let this = rw c.loop-i.invariant.kept at c.in_ok-note.ensures.note in record {
+  notes = λ slots known. more_notes c.args.library.extents.now c.args.member.now c.args.notes.now _ slots c.loop-i.i
+      c.loop-i.found.items _ c.in_ok-note.note
+      c.push.ensures.items (c.loop-i.invariant.notes slots known) (this slots known);
+  count = c.push.ensures.len ∙ ap (λ n. n + 1) c.loop-i.invariant.count;
+  kept = c.read_note.ensures.kept ∙ c.loop-i.invariant.kept;
+}

@@ -9,8 +9,7 @@ abbrev pub invariant-loop : goal.invariant-loop
 invariant-loop g l =
     let v = g.V.SlotReader.volume l.fn.volume in
     let extents = l.library.extents.now in
-    let entries = l.library.entries.now in
-    record {
+    let entries = l.library.entries.now in record {
       text : (slots : List (List ℕ)) → v.slots ≡ Some slots → l.text.items ++ text_of
           (forms_from (λ e next. Entry (entry_in extents entries e (user_data l.bytes e next) v.geometry slots))
           (length l.bytes - l.counter)

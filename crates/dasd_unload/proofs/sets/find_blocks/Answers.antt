@@ -22,7 +22,6 @@ returns-in-Err-clause-why g c = record {
 
 pub returns-in-Err-find_start-clause-why : goal.returns-in-Err-find_start-clause-why
 returns-in-Err-find_start-clause-why g c =
-    let a = c.args.asked_for in
-    why_no_start _ (asked a.name.now (option_copied a.member) a.block_form a.given (option_copied a.target))
+    let a = c.args.asked_for in why_no_start _ (asked a.name.now (option_copied a.member) a.block_form a.given (option_copied a.target))
     (g.V.SlotReader.volume c.args.volume.now) c.in-Some.set
     (rw c.in-Some.is at c.in_ok-set.ensures.found) (rw c.find_set.ensures.kept at c.in-Err-find_start.ensures.why)

@@ -1,11 +1,44 @@
-use Rattle.std.proofs.Common.{refl, sym, ap, subst}
+use Rattle.std.proofs.Common.{◌≡◌, refl, sym, subst, ℕ, true, List, Some, None, Ok, inr, ap}
 use Rattle.std.specs.Option.{option_copied}
-use Rattle.counted_io.specs.Streams.{seen_by}
-use Rattle.dasd_extract.specs.Walk.{wanted}
-use Rattle.dasd_unload.specs.Asked.{asked_by, UnloadsSet}
-use Rattle.dasd_unload.specs.Unloads.{outcome}
-use Rattle.dasd_unload.proofs.SetUnloaded.{stopped, to_file, to_writer}
+use Rattle.counted_io.specs.Streams.{IsFlushed, seen_by}
+use Rattle.dasd_volumes.specs.Reading.{KnownVolume}
+use Rattle.volume_contents.specs.declared.sets.DataSet.{DataSet}
+use Rattle.dasd_extract.specs.declared.stops.Stop.{Stop}
+use Rattle.dasd_extract.specs.Walk.{Wanted, PrintsSource, wanted}
+use Rattle.dasd_unload.specs.declared.fault.UnloadFault.{UnloadFault}
+use Rattle.dasd_unload.specs.Parts.{end_of}
+use Rattle.dasd_unload.specs.Unloads.{Outcome, is_of_job, outcome}
+use Rattle.dasd_unload.specs.Asked.{AskedSet, Asks, PutsBlocks, PrintsFirst, StopsPrinting, UnloadsSet, WritesTo, asked_by}
 use Rattle.dasd_unload.proofs.sets.unload_from.Goals as goal
+
+module _ (a : AskedSet) (v : KnownVolume) (before now : Outcome) (set : DataSet) (source : Wanted) (asks : Asks a v set source) where
+  -- to a file
+  to_file : (path : List ℕ) → a.target ≡ Some path → now.printed ≡ before.printed
+      → (stop : Stop) → PutsBlocks path source v before.written now.written stop → UnloadsSet a v before now (end_of set.block stop)
+  to_file path is printed stop puts = record {
+    set = set;
+    source = source;
+    asks = asks;
+    written = subst (λ t. WritesTo t source v before now stop) (sym is) (puts, printed);
+    part = refl;
+  }
+
+  -- to the writer
+  to_writer : a.target ≡ None → now.written ≡ before.written → (stop : Stop)
+      → PrintsSource source v (Ok stop) before.printed now.printed → IsFlushed now.printed
+      → UnloadsSet a v before now (end_of set.block stop)
+  to_writer is written stop prints flushed = record {
+    set = set;
+    source = source;
+    asks = asks;
+    written = subst (λ t. WritesTo t source v before now stop) (sym is) (written, prints, flushed);
+    part = refl;
+  }
+
+  -- or not to its end
+  stopped : a.target ≡ None → (f : UnloadFault) → is_of_job f ≡ true
+      → PrintsFirst source v before.printed now.printed → StopsPrinting f a v before.printed now.printed
+  stopped is f of_job front = inr (record { of_job = of_job; to_writer = is; set = set; source = source; asks = asks; front = front })
 
 pub returns-in-Ok-put-clause-done : goal.returns-in-Ok-put-clause-done
 returns-in-Ok-put-clause-done g c =
@@ -15,8 +48,7 @@ returns-in-Ok-put-clause-done g c =
     let source = wanted found.form found.set.extents.items found.start 65535 in
     let printed = seen_by g.W.Write.contents c.args.writer.now in
     let before = outcome (g.F.ImageFiles.written c.args.files.now) printed in
-    let now = outcome (g.F.ImageFiles.written c.put.new.files) printed in
-    subst (UnloadsSet a v before now) (sym c.end_of.ensures)
+    let now = outcome (g.F.ImageFiles.written c.put.new.files) printed in subst (UnloadsSet a v before now) (sym c.end_of.ensures)
     (to_file a v before now found.set source c.in-Ok.ensures.found c.in-Some.path.now (ap option_copied c.in-Some.is) refl
     c.in-Ok-put.stop
     (rw c.find_blocks.ensures.kept at (rw c.as_slice.ensures.value at c.in-Ok-put.ensures.file)))

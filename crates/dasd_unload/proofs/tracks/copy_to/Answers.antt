@@ -8,13 +8,10 @@ pub returns-in-Ok-put_file-clause-file : goal.returns-in-Ok-put_file-clause-file
 returns-in-Ok-put_file-clause-file g c =
     let bytes = g.F.Draft.ImageStore.content c.into_inner-written.result.draft in
     let s = tracks_copied c.args.extents.now in
-    let v = g.V.SlotReader.volume c.args.volume.now in
-    record {
+    let v = g.V.SlotReader.volume c.args.volume.now in record {
       bytes = bytes;
       put = c.in-Ok-put_file.ensures.file ∙ ap (λ l. with_file l c.args.path.now bytes) c.begin_file.ensures.kept;
-      tracks =
-          through s v _ _ _ bytes
-          (ap (λ n. g.F.Draft.ImageStore.content n.draft) c.new-writer.ensures.inner ∙ c.in-Ok.ensures.empty)
+      tracks = through s v _ _ _ bytes (ap (λ n. g.F.Draft.ImageStore.content n.draft) c.new-writer.ensures.inner ∙ c.in-Ok.ensures.empty)
           (ap (λ n. g.F.Draft.ImageStore.content n.draft) c.into_inner-written.ensures)
           (extracted s v _ _ _ c.in-Ok-copy_tracks.ensures.written);
     }

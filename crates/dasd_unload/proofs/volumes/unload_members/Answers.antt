@@ -34,13 +34,11 @@ returns-in-Err-directory-clause-does g c =
 pub loop-entry-init : goal.loop-entry-init
 loop-entry-init g c =
     let set = c.args.opened.set.now in
-    let t = c.args.opened.target in
-    record {
+    let t = c.args.opened.target in record {
       files = adds_none _ _;
       same = refl;
       kept = c.in-Ok.ensures.volume.0;
-      steps =
-          directory_told (g.V.SlotReader.volume c.args.volume.now) (plan t.folder.now t.block_form (option_copied t.json)) set.block
+      steps = directory_told (g.V.SlotReader.volume c.args.volume.now) (plan t.folder.now t.block_form (option_copied t.json)) set.block
           set.extents.items c.args.opened.form
           c.in-Ok.members (rw c.as_slice-extents.ensures.value at c.in-Ok.ensures.members) c.as_slice-entries.result.now
           c.as_slice-entries.ensures.value _ _ _ _ _
@@ -67,8 +65,7 @@ returns-in-Err-unload_item-clause-does g c =
     c.loop-entry-test.true
     (rw (
       c.loop-entry.invariant.kept,
-      c.as_str-in-loop-entry.ensures.value
-          ∙ c.in-Ok-name_of_member.ensures.name,
+      c.as_str-in-loop-entry.ensures.value ∙ c.in-Ok-name_of_member.ensures.name,
       c.member_of.ensures.extents,
       c.as_slice-extents.ensures.value,
       c.member_of.ensures.start,
@@ -80,21 +77,18 @@ pub loop-entry-preserved : goal.loop-entry-preserved
 loop-entry-preserved g c =
     let set = c.args.opened.set.now in
     let t = c.args.opened.target in
-    let form = c.args.opened.form in
-    record {
+    let form = c.args.opened.form in record {
       files = adds_both _ _ _ _ c.loop-entry.invariant.files c.unload_item.ensures.files;
       same = c.unload_item.ensures.same ∙ c.loop-entry.invariant.same;
       kept = c.unload_item.ensures.kept ∙ c.loop-entry.invariant.kept;
-      steps =
-          next (g.V.SlotReader.volume c.args.volume.now) (plan t.folder.now t.block_form (option_copied t.json))
+      steps = next (g.V.SlotReader.volume c.args.volume.now) (plan t.folder.now t.block_form (option_copied t.json))
           (λ u. partitioned_steps u set.block set.extents.items form)
           (λ u e. member_step set.block set.extents.items form e ∷ []) c.as_slice-entries.result.now c.loop-entry.entry-index _ _ _
           _ c.loop-entry.invariant.steps _ _ _
           c.loop-entry-test.true
           (rw (
             c.loop-entry.invariant.kept,
-            c.as_str-in-loop-entry.ensures.value
-                ∙ c.in-Ok-name_of_member.ensures.name,
+            c.as_str-in-loop-entry.ensures.value ∙ c.in-Ok-name_of_member.ensures.name,
             c.member_of.ensures.extents,
             c.as_slice-extents.ensures.value,
             c.member_of.ensures.start,
@@ -107,8 +101,7 @@ pub returns-clause-does : goal.returns-clause-does
 returns-clause-does g c =
     let set = c.args.opened.set.now in
     let t = c.args.opened.target in
-    let form = c.args.opened.form in
-    all (g.V.SlotReader.volume c.args.volume.now) (plan t.folder.now t.block_form (option_copied t.json))
+    let form = c.args.opened.form in all (g.V.SlotReader.volume c.args.volume.now) (plan t.folder.now t.block_form (option_copied t.json))
     (λ u. partitioned_steps u set.block set.extents.items form)
     (λ u e. member_step set.block set.extents.items form e ∷ []) c.as_slice-entries.result.now c.loop-entry.entry-index _ _ _ _
     c.loop-entry.invariant.steps c.loop-entry-test.false

@@ -13,8 +13,7 @@ invariant-loop-entry g l =
     let written = g.F.ImageFiles.written in
     let printed = seen_by g.W.Write.contents in
     let v = g.V.SlotReader.volume l.fn.volume in
-    let set = l.opened.set.now in
-    record {
+    let set = l.opened.set.now in record {
       files : AddsIn l.target.folder.now (written l.fn.files) (written l.files);
       same : g.F.ImageFiles.opened l.files ≡ g.F.ImageFiles.opened l.fn.files;
       kept : g.V.SlotReader.volume l.volume ≡ v;

@@ -8,11 +8,7 @@ use Rattle.dasd_unload.proofs.volumes.unload_one.Goals as goal
 
 pub unload_item-requires : goal.unload_item-requires
 unload_item-requires g c = record {
-  name = record {
-    data_set = c.args.listed.set.now.block.name;
-    member = None;
-    made = c.as_str.ensures.value ∙ c.in-Ok.ensures.name;
-  };
+  name = record { data_set = c.args.listed.set.now.block.name; member = None; made = c.as_str.ensures.value ∙ c.in-Ok.ensures.name };
 }
 
 pub returns-in-Err-clause-does : goal.returns-in-Err-clause-does

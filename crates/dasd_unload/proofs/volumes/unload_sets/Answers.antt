@@ -25,13 +25,11 @@ returns-in-Err-clause-does g c =
 pub loop-block-preserved : goal.loop-block-preserved
 loop-block-preserved g c =
     let t = c.args.table.target in
-    let blocks = c.args.table.blocks.now in
-    record {
+    let blocks = c.args.table.blocks.now in record {
       files = adds_both _ _ _ _ c.loop-block.invariant.files c.unload_block.ensures.files;
       same = c.unload_block.ensures.same ∙ c.loop-block.invariant.same;
       kept = c.unload_block.ensures.kept ∙ c.loop-block.invariant.kept;
-      steps =
-          next (g.V.SlotReader.volume c.args.volume.now) (plan t.folder.now t.block_form (option_copied t.json))
+      steps = next (g.V.SlotReader.volume c.args.volume.now) (plan t.folder.now t.block_form (option_copied t.json))
           (λ u. flat_map (block_steps u blocks) blocks)
           (λ u k. block_steps u blocks k) blocks c.loop-block.block-index _ _ _ _ c.loop-block.invariant.steps _ _ _ c.loop-block-test.true
           (rw c.loop-block.invariant.kept at c.in_default.ensures.does);

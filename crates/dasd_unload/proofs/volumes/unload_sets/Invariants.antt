@@ -12,8 +12,7 @@ abbrev pub invariant-loop-block : goal.invariant-loop-block
 invariant-loop-block g l =
     let written = g.F.ImageFiles.written in
     let printed = seen_by g.W.Write.contents in
-    let v = g.V.SlotReader.volume l.fn.volume in
-    record {
+    let v = g.V.SlotReader.volume l.fn.volume in record {
       files : AddsIn l.table.target.folder.now (written l.fn.files) (written l.files);
       same : g.F.ImageFiles.opened l.files ≡ g.F.ImageFiles.opened l.fn.files;
       kept : g.V.SlotReader.volume l.volume ≡ v;
