@@ -1,5 +1,5 @@
 -- How many records go on a track, and how many bytes they take there.
-use Rattle.std.proofs.Common.{◌≡◌, ◌∙◌, ap, sym, refl, subst, inl, inr, ⊎_elim, ◌⊎◌, ℕ, zero, suc, ◌+◌, ◌-◌, ◌*◌, ◌≤◌, ◌<◌, true, false}
+use Rattle.std.proofs.Common.{◌≡◌, ap, refl, inl, inr, ⊎_elim, ◌⊎◌, ℕ, zero, suc, ◌+◌, ◌-◌, ◌*◌, ◌≤◌, ◌<◌, true, false}
 use Rattle.std.proofs.Common.{List, [], ◌∷◌, length, take, drop, get_or, nat_le, sum_by, arith, ◌≢◌, All, drop-drop, length-drop}
 use Rattle.std.proofs.lemmas.Bool.{cases_lt}
 use Rattle.std.proofs.lemmas.Bool.Decides.{nat_tests}
@@ -74,20 +74,18 @@ module _ (model : DriveModel) (taken : ℕ) (a : Areas) (others : List Areas) wh
         none = λ over. absurd (omega (arith, within));
       }
 
-  none_on : FitsOn model taken (a ∷ others) 0
-  none_on = record { within = omega arith; few = omega arith; room = λ h. omega arith; none = λ _. refl }
-
-  on_either : (capacity_of model < taken + last_charge_for model a) ⊎ (taken + last_charge_for model a ≤ capacity_of model)
-      → FitsOn model (taken + charge_for model a) others (fitting model (taken + charge_for model a) others)
-      → FitsOn model taken (a ∷ others) (fitting model taken (a ∷ others))
-  on_either (inl over) more = subst (FitsOn model taken (a ∷ others)) (sym (is_full model taken a others over)) none_on
-  on_either (inr fits) more = subst (FitsOn model taken (a ∷ others)) (sym (one_fits model taken a others fits)) (one_on _ fits more)
-
 pub fits_on : (model : DriveModel) (taken : ℕ) (areas : List Areas) → FitsOn model taken areas (fitting model taken areas)
-fits_on model taken [] = subst (FitsOn model taken []) (sym (none_fits model taken))
-    (record { within = omega arith; few = omega arith; room = λ h. omega arith; none = λ _. refl })
-fits_on model taken (a ∷ others) = on_either model taken a others (cases_lt (capacity_of model) (taken + last_charge_for model a))
-    (fits_on model (taken + charge_for model a) others)
+fits_on model taken [] =
+    rw (none_fits model taken) (record { within = omega arith; few = omega arith; room = λ h. omega arith; none = λ _. refl })
+fits_on model taken (a ∷ others) =
+    by (cases_lt (capacity_of model) (taken + last_charge_for model a)) (fits_on model (taken + charge_for model a) others)
+  where
+    by : (capacity_of model < taken + last_charge_for model a) ⊎ (taken + last_charge_for model a ≤ capacity_of model)
+        → FitsOn model (taken + charge_for model a) others (fitting model (taken + charge_for model a) others)
+        → FitsOn model taken (a ∷ others) (fitting model taken (a ∷ others))
+    by (inl over) more = rw (is_full model taken a others over)
+        (record { within = omega arith; few = omega arith; room = λ h. omega arith; none = λ _. refl })
+    by (inr fits) more = rw (one_fits model taken a others fits) (one_on model taken a others _ fits more)
 
 -- A loop over records that has passed so many, which have taken so much of the track.
 module _ (model : DriveModel) (left : List Areas) (k taken : ℕ) (d : Areas)
@@ -96,18 +94,15 @@ module _ (model : DriveModel) (left : List Areas) (k taken : ℕ) (d : Areas)
   next_is there = cc (drop_more left k d there)
 
   pub stops : k < length left → capacity_of model < taken + last_charge_for model (get_or left k d) → k ≡ fitting_on model left
-  stops there over = omega (arith, next_is there ∙ ap (λ (n : ℕ). k + n) (is_full model taken (get_or left k d) (drop (k + 1) left) over))
+  stops there over = omega (arith, next_is there, is_full model taken (get_or left k d) (drop (k + 1) left) over)
 
   pub goes_on : k < length left → taken + last_charge_for model (get_or left k d) ≤ capacity_of model
       → fitting_on model left ≡ k + 1 + fitting model (taken + charge_for model (get_or left k d)) (drop (k + 1) left)
-  goes_on there within =
-      omega (arith, next_is there ∙ ap (λ (n : ℕ). k + n) (one_fits model taken (get_or left k d) (drop (k + 1) left) within))
+  goes_on there within = omega (arith, next_is there, one_fits model taken (get_or left k d) (drop (k + 1) left) within)
 
   pub ends : length left ≤ k → k ≡ fitting_on model left
   ends all =
-      let none = ap (λ (xs : List Areas). k + fitting model taken xs) (drop_all k left all)
-      ∙ ap (λ (n : ℕ). k + n) (none_fits model taken) in
-      omega (arith, so_far ∙ none)
+      let none : fitting model taken (drop k left) ≡ 0 = cc (drop_all k left all, none_fits model taken) in omega (arith, so_far)
 
 -- one at least goes on an empty track
 pub some_fits : (model : DriveModel) (a : Areas) (others : List Areas) → GoesOn model a → 1 ≤ fitting_on model (a ∷ others)

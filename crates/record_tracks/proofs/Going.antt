@@ -1,5 +1,5 @@
 -- The entries of a directory, one behind another.
-use Rattle.std.proofs.Common.{◌≡◌, ◌∙◌, ap, subst, ℕ, ◌+◌, ◌≤◌, ◌<◌, List, [], ◌∷◌, length, map, get_or, arith, All, length-append, sym}
+use Rattle.std.proofs.Common.{◌≡◌, ◌∙◌, ap, subst, ℕ, ◌+◌, ◌≤◌, ◌<◌, List, [], ◌∷◌, length, map, get_or, arith, All, length-append}
 use Rattle.std.proofs.Common.{refl, zero, suc, ◌++◌, take, drop, nat_le, true, false, ◌⊎◌, inl, inr, append-nil, ◌≢◌, drop-drop}
 use Rattle.std.proofs.Common.{length-drop}
 use Rattle.std.proofs.lemmas.List.{get_or_append_left, get_or_push, get_or-map, length-map, drop_more, drop_all, take_more}
@@ -77,42 +77,33 @@ pub record GoesIn (used : ℕ) (entries : List (List ℕ)) (n : ℕ) : Type 0 wh
   pub within : n ≤ length entries
   pub room : used ≤ 256 → used + length (concat (take n entries)) ≤ 256
 
-none_in : (used : ℕ) (entries : List (List ℕ)) → GoesIn used entries 0
-none_in used entries = record { within = omega arith; room = λ h. omega arith }
-
-one_in : (used : ℕ) (e : List ℕ) (others : List (List ℕ)) (n : ℕ) → used + length e ≤ 256 → GoesIn (used + length e) others n
-    → GoesIn used (e ∷ others) (suc n)
-one_in used e others n fits more = record {
-  within = omega arith;
-  room = λ _. omega (arith, more.room fits, length-append e (concat (take n others)));
-}
-
 pub goes_in : (used : ℕ) (entries : List (List ℕ)) → GoesIn used entries (going_in used entries)
-goes_in used [] = subst (GoesIn used []) (sym (none_goes used)) (none_in used [])
+goes_in used [] = rw (none_goes used) (record { within = omega arith; room = λ h. omega arith })
 goes_in used (e ∷ others) = by (cases_lt 256 (used + length e)) (goes_in (used + length e) others)
   where
     by : (256 < used + length e) ⊎ (used + length e ≤ 256) → GoesIn (used + length e) others (going_in (used + length e) others)
         → GoesIn used (e ∷ others) (going_in used (e ∷ others))
-    by (inl over) more = subst (GoesIn used (e ∷ others)) (sym (is_full used e others over)) (none_in used (e ∷ others))
-    by (inr fits) more = subst (GoesIn used (e ∷ others)) (sym (one_goes used e others fits)) (one_in used e others _ fits more)
+    by (inl over) more = rw (is_full used e others over) (record { within = omega arith; room = λ h. omega arith })
+    by (inr fits) more = rw (one_goes used e others fits) (record {
+      within = omega (arith, more.within);
+      room = λ _. omega (arith, more.room fits, length-append e (concat (take (going_in (used + length e) others) others)));
+    })
 
 -- A loop over entries that has passed so many, with so many bytes of the block used by them.
 module _ (left : List (List ℕ)) (k used : ℕ) (so_far : going_in 2 left ≡ k + going_in used (drop k left)) where
+  next_is : k < length left → going_in 2 left ≡ k + going_in used (get_or left k [] ∷ drop (k + 1) left)
+  next_is there = cc (drop_more left k [] there)
+
   pub stops : k < length left → 256 < used + length (get_or left k []) → k ≡ going_in 2 left
-  stops there over =
-      let none = is_full used (get_or left k []) (drop (k + 1) left) over in
-      omega (arith, so_far ∙ ap (λ (xs : List (List ℕ)). k + going_in used xs) (drop_more left k [] there) ∙ ap (λ (n : ℕ). k + n) none)
+  stops there over = omega (arith, next_is there, is_full used (get_or left k []) (drop (k + 1) left) over)
 
   pub goes_on : k < length left → used + length (get_or left k []) ≤ 256
       → going_in 2 left ≡ k + 1 + going_in (used + length (get_or left k [])) (drop (k + 1) left)
-  goes_on there fits =
-      let one = one_goes used (get_or left k []) (drop (k + 1) left) fits in
-      omega (arith, so_far ∙ ap (λ (xs : List (List ℕ)). k + going_in used xs) (drop_more left k [] there) ∙ ap (λ (n : ℕ). k + n) one)
+  goes_on there fits = omega (arith, next_is there, one_goes used (get_or left k []) (drop (k + 1) left) fits)
 
   pub ends : length left ≤ k → k ≡ going_in 2 left
   ends all =
-      let none = ap (λ (xs : List (List ℕ)). k + going_in used xs) (drop_all k left all) ∙ ap (λ (n : ℕ). k + n) (none_goes used) in
-      omega (arith, so_far ∙ none)
+      let none : going_in used (drop k left) ≡ 0 = cc (drop_all k left all, none_goes used) in omega (arith, so_far)
 
 -- the bytes of one entry more
 pub concat_more : (left : List (List ℕ)) (k : ℕ) → k < length left → concat (take (k + 1) left) ≡ concat (take k left) ++ get_or left k []

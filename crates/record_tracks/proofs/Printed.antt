@@ -1,7 +1,8 @@
 -- The records of a text on tracks are read as its lines.
-use Rattle.std.proofs.Common.{◌≡◌, ◌∙◌, ◌≤◌, ◌<◌, ◌+◌, ◌*◌, ◌==◌, ⊎_elim, ℕ, zero, suc, Bool, true, false, not, ◌&&◌, List, [], ◌∷◌, ◌++◌}
+use Rattle.std.proofs.Common.{◌≡◌, ◌∙◌, ◌≤◌, ◌<◌, ◌+◌, ◌*◌, ◌==◌, ⊎_elim, ℕ, zero, suc, false, not, List, [], ◌∷◌, ◌++◌}
 use Rattle.std.proofs.Common.{length, map, take, drop, flat_map, ap, refl, sym, subst, arith, All, drop-drop, length-append, length-take}
 use Rattle.std.proofs.Common.{length-drop}
+use Rattle.std.proofs.Math.Bool.{and-false}
 use Rattle.std.proofs.lemmas.Bool.{le-ltb, cases_lt}
 use Rattle.std.proofs.lemmas.Nat.{mul-le}
 use Rattle.std.proofs.lemmas.List.{take-append-drop, drop_all}
@@ -25,13 +26,9 @@ use Rattle.record_tracks.specs.Read.{ended, without_blanks}
 use Rattle.record_tracks.specs.Printed.{layout_of, IsPrinted}
 use Rattle.record_tracks.proofs.TextReading.{AreRecords, are_records, read_as_lines}
 
-and_false : (b : Bool) → (b && false) ≡ false
-and_false true = refl
-and_false false = refl
-
 -- a block that is not longer than the longest
 no_longer : (longest n : ℕ) → n ≤ longest → is_longer longest n ≡ false
-no_longer longest n within = cc (le-ltb longest n within, and_false (not (longest == 0)))
+no_longer longest n within = cc (le-ltb longest n within, and-false (not (longest == 0)))
 
 at_most : (a b size : ℕ) → 1 ≤ size → a * size ≤ b * size → a ≤ b
 at_most a b size some within = ⊎_elim (λ (over : b < a). absurd (omega (arith, mul-le (b + 1) size a size (omega arith) (omega arith))))

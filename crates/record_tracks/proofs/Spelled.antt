@@ -45,15 +45,10 @@ pub length-records : (track : List ℕ) (number : ℕ) (areas : List Areas) → 
     → length (flat_map record_bytes (records_with track number areas)) ≡ sizes areas
 length-records track number [] four = rw (no_records track number) refl
 length-records track number (a ∷ others) four =
-    let r = record_bytes (record_with track number a) in
     let rs = flat_map record_bytes (records_with track (number + 1) others) in
-    ap (λ (rs : List Record). length (flat_map record_bytes rs)) (one_record track number a others) ∙ omega (
-      arith,
-      length-append r rs,
-      length-record_with track number a four,
-      length-records track (number + 1) others four,
-      sum_by-cons area_size a others,
-    )
+    let behind = length-records track (number + 1) others four in
+    let both = length-append (record_bytes (record_with track number a)) rs in
+    rw (one_record track number a others) (omega (arith, length-record_with track number a four, sum_by-cons area_size a others))
 
 -- the bytes of one record more
 pub one_more_record : (g : Geometry) (n k : ℕ) (areas : List Areas) (a : Areas) → k < length areas → get_or areas k end_of_file ≡ a

@@ -1,7 +1,8 @@
 -- What the reader writes of the blocks of a file: its bytes.
-use Rattle.std.proofs.Common.{◌≡◌, ap, refl, subst, ℕ, zero, suc, ◌+◌, ◌*◌, ◌/◌, ◌%◌, ◌≤◌, ◌<◌, List, [], ◌∷◌, ◌++◌, length, map, take}
+use Rattle.std.proofs.Common.{◌≡◌, ap, refl, subst, ℕ, zero, suc, ◌+◌, ◌*◌, ◌/◌, ◌%◌, ◌≤◌, ◌<◌, List, [], ◌∷◌, length, map, take}
 use Rattle.std.proofs.Common.{drop, flat_map, arith, All, length-take, length-drop}
-use Rattle.std.proofs.lemmas.List.{take-append-drop, take-take, drop-take, length-take-le}
+use Rattle.std.proofs.Math.Seq.{take-add}
+use Rattle.std.proofs.lemmas.List.{take-append-drop, length-take-le}
 use Rattle.std.proofs.lemmas.List.Elements.{All-head, All-tail, All-drop, All-map, All-nil, All-cons, All-append}
 use Rattle.ckd_track.specs.declared.model.DriveModel.{DriveModel}
 use Rattle.record_tracks.specs.Records.{Areas, GoesOn, end_of_file}
@@ -25,11 +26,6 @@ text_of (Length size) a = a.data_area
 text_of Described a = a.data_area
 text_of WithLengths a = keyed_text a
 
-two_parts : (n m : ℕ) (bytes : List ℕ) → take n bytes ++ take m (drop n bytes) ≡ take (n + m) bytes
-two_parts n m bytes =
-    let front = take-append-drop n (take (n + m) bytes) in
-    let one : take n (take (n + m) bytes) ≡ take n bytes = take-take n (n + m) bytes (omega arith) in cc (drop-take n m bytes)
-
 -- lengths, key and data, one behind another
 with_lengths : (k h l : ℕ) (others : List ℕ) → l < 256 → k + (h * 256 + l) ≤ length others
     → keyed_text (record { key_area = take k others; data_area = take (h * 256 + l) (drop k others) })
@@ -39,7 +35,7 @@ with_lengths k h l others low within =
     let key : length (take k others) ≡ k = length-take-le k others (omega arith) in
     let size : length (take d (drop k others)) ≡ d = length-take-le d (drop k others) (omega (arith, length-drop k others)) in
     let high : d / 256 ≡ h = omega arith in
-    let rest : d % 256 ≡ l = omega arith in rw (key, size, high, rest, two_parts k d others) refl
+    let rest : d % 256 ≡ l = omega arith in rw (key, size, high, rest, ← take-add k d others) refl
 
 keyed_is : (bytes : List ℕ) → All IsByte bytes → IsWhole WithLengths bytes
     → keyed_text (first_areas WithLengths bytes) ≡ take (size_of WithLengths bytes) bytes
