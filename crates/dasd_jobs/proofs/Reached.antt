@@ -1,9 +1,7 @@
 -- Files whose last one may have an odd length.
-use Rattle.std.proofs.Common.{◌≡◌, ◌∙◌, ℕ, zero, suc, ◌+◌, ◌-◌, ◌*◌, ◌/◌, ◌<◌, ◌≤◌}
-use Rattle.std.proofs.Common.{Bool, true, false, nat_lt, min, if◌then◌else◌, List, [], ◌∷◌}
-use Rattle.std.proofs.Common.{◌++◌, length, take, drop, map, get_or, slice_range, Option}
-use Rattle.std.proofs.Common.{Some, None, IsSome, Ok, Err, ◌⊎◌, inl, inr, refl}
-use Rattle.std.proofs.Common.{sym, ap, subst, arith, length-append, length-drop}
+use Rattle.std.proofs.Common.{◌≡◌, ◌∙◌, ℕ, zero, suc, ◌+◌, ◌-◌, ◌*◌, ◌/◌, ◌<◌, ◌≤◌, Bool, true, false, nat_lt, min, if◌then◌else◌, List, []}
+use Rattle.std.proofs.Common.{◌∷◌, ◌++◌, length, take, drop, map, get_or, slice_range, Option, Some, None, IsSome, Ok, Err, ◌⊎◌, inl, inr}
+use Rattle.std.proofs.Common.{refl, sym, ap, subst, arith, length-append, length-drop}
 use Rattle.std.specs.List.{AllZip, AllByRecursion, sum}
 use Rattle.std.proofs.lemmas.Bool.{cases_lt, lt-ltb}
 use Rattle.std.proofs.lemmas.List.{take_all, drop_all, get_or_default, length-take-le, take-append-drop, take-append-le, drop-append-le}
@@ -11,7 +9,6 @@ use Rattle.std.proofs.Math.Seq.{take-nil}
 use Rattle.std.proofs.Math.Nat.{zero-mul, add-mul, min-le_left, div-mul-le_self, mul-le-mul_right}
 use Rattle.ckd_track.specs.declared.geometries.Geometry.{Geometry}
 use Rattle.ckd_track.specs.Geometry.{tracks_of}
-use Rattle.ckd_image.specs.Header as mounting
 use Rattle.ckd_image.specs.Header.{head_of, header_of, headers_of, then_with, volume_of, mount_of}
 use Rattle.ckd_image.specs.declared.fault.MountFault.{MountFault}
 use Rattle.ckd_image.specs.declared.fault.MountFault.TheVariants.{StoreFault}
@@ -22,14 +19,13 @@ use Rattle.ckd_image.proofs.FileLemmas.{located_at, range_located, slot_bytes-co
 use Rattle.ckd_image.proofs.Writes.{range_is}
 use Rattle.ckd_image.proofs.ImageLemmas.{slot_is, slots_of}
 use Rattle.dasd_volumes.specs.Reading.{IsSlotOf}
-use Rattle.dasd_jobs.specs.declared.lengths.Reach.{Reach}
 use Rattle.dasd_jobs.specs.declared.reasons.Head.{Head}
 use Rattle.dasd_jobs.specs.Lengths.{whole_length, keeps_length, judged_length, as_whole, last_made, mounted_by, slots_held, held_part}
 use Rattle.dasd_jobs.specs.Lengths.{bytes_left_out}
 use Rattle.dasd_jobs.specs.Sources.{Content, StandsIn, Mounts, NotMounted, IsReach, known, volume_in}
 use Rattle.dasd_jobs.specs.Opening.{IsHeadOf, AreTracks, IsBroken, Lies, alone, whole_head, judged, left_behind}
-use Rattle.dasd_jobs.proofs.Volumes.{Made, made, all_known, some_held, length_alone}
-use Rattle.dasd_jobs.proofs.Volumes.{alone_head, same_seen, same_header, then_same, mount_same}
+use Rattle.dasd_jobs.proofs.Volumes.{made, all_known, some_held, length_alone, alone_head, same_seen, same_header, then_same}
+use Rattle.dasd_jobs.proofs.Volumes.{mount_same}
 
 -- The last of several.
 
@@ -71,8 +67,7 @@ judged_count true heads = length-last_made whole_head heads
 
 pub judged_default : (as_far : Bool) (heads : List Head) (i : ℕ) (d e : Head) → i < length heads
     → get_or (judged as_far heads) i d ≡ get_or (judged as_far heads) i e
-judged_default as_far heads i d e inside =
-    get_or_default (judged as_far heads) i d e (let long = judged_count as_far heads in omega (arith, long, inside))
+judged_default as_far heads i d e inside = get_or_default (judged as_far heads) i d e (let long = judged_count as_far heads in omega arith)
 
 -- Lengths by which files are judged.
 
@@ -95,20 +90,17 @@ same_whole file head is = by (cases_lt (length file) 512)
     by (inl short) =
         let long = (is file refl).0 in
         let all = length_alone (whole_head head) in
-        let other_is = judged_short head.header head.len (omega (arith, long, short)) in
-        let one : nat_lt (judged_length (take 512 file) (length file)) 512 ≡ true =
-        lt-ltb (judged_length (take 512 file) (length file)) 512
-        (let is_len = judged_short (take 512 file) (length file) short in omega (arith, is_len, short)) in
-        let other : nat_lt (length (alone (whole_head head))) 512 ≡ true =
-        lt-ltb (length (alone (whole_head head))) 512 (omega (arith, long, all, other_is, short)) in
+        let other_is = judged_short head.header head.len (omega arith) in
+        let one : nat_lt (judged_length (take 512 file) (length file)) 512 ≡ true = lt-ltb (judged_length (take 512 file) (length file)) 512
+        (let is_len = judged_short (take 512 file) (length file) short in omega arith) in
+        let other : nat_lt (length (alone (whole_head head))) 512 ≡ true = lt-ltb (length (alone (whole_head head))) 512 (omega arith) in
         rw (one, other) refl
     by (inr enough) =
         let its = is file refl in
         let first : head.header ≡ take 512 file = its.1 enough in
         let long : length head.header ≡ 512 = ap length first ∙ length-take-le 512 file enough in
-        let same : judged_length (take 512 file) (length file) ≡ judged_length head.header head.len =
-        ap (λ (h : List ℕ). judged_length h (length file)) (sym first) ∙ ap (judged_length head.header) (sym its.0) in
-        let whole = judged_enough head.header head.len (omega (arith, its.0, enough)) in
+        let same : judged_length (take 512 file) (length file) ≡ judged_length head.header head.len = cc in
+        let whole = judged_enough head.header head.len (omega arith) in
         ap header_of (same_seen (take 512 file) head.header (judged_length (take 512 file) (length file))
         (judged_length head.header head.len) (sym first) same ∙ sym (alone_head (whole_head head) long whole))
 
@@ -117,8 +109,7 @@ wholes_same : (read : List _) (files : List (List ℕ)) (heads : List Head) → 
 wholes_same read [] [] are = refl
 wholes_same read [] (head ∷ heads) are = absurd are
 wholes_same read (file ∷ files) [] are = absurd are
-wholes_same read (file ∷ []) (head ∷ []) are =
-    ap (λ r. then_with r (λ h. headers_of (read ++ h ∷ []) [])) (same_whole file head are.0)
+wholes_same read (file ∷ []) (head ∷ []) are = ap (λ r. then_with r (λ h. headers_of (read ++ h ∷ []) [])) (same_whole file head are.0)
 wholes_same read (file ∷ []) (head ∷ next ∷ heads) are = absurd are.1
 wholes_same read (file ∷ second ∷ files) (head ∷ []) are = absurd are.1
 wholes_same read (file ∷ second ∷ files) (head ∷ next ∷ heads) are =
@@ -146,8 +137,7 @@ mounted_files as_far g contents heads are mounts files is = judged_same as_far f
 -- and those whose headers are not are no image
 pub broken_files : (as_far : Bool) (broken : MountFault) (contents : List Content) (heads : List Head) → AllZip IsHeadOf contents heads
     → mount_of (map alone (judged as_far heads)) ≡ Err broken → NotMounted as_far contents broken
-broken_files as_far broken contents heads are breaks files is =
-    judged_same as_far files heads (those contents heads files is are) ∙ breaks
+broken_files as_far broken contents heads are breaks files is = judged_same as_far files heads (those contents heads files is are) ∙ breaks
 
 -- a mount that was refused breaks this rule
 pub is_broken : (fault : MountFault) (seen files : List (List ℕ)) (before now : List ℕ) → FilesRefused fault seen before now → seen ≡ files
@@ -172,8 +162,7 @@ long_whole size head w = by (cases_lt head.len 512)
     by (inr enough) = enough
     by (inl short) =
         let whole = long_one size (whole_head head) w in
-        let is = judged_short head.header head.len short in
-        absurd (omega (arith, whole, is, short))
+        let is = judged_short head.header head.len short in absurd (omega (arith, whole, is, short))
 
 long_last : (size : ℕ) (heads : List Head) → AllByRecursion (HoldsWhole size) (map alone (last_made whole_head heads))
     → AllByRecursion (λ (h : Head). 512 ≤ h.len) heads
@@ -191,8 +180,7 @@ judged_long true g heads mounts = long_last g.track_size heads (mount_fits (map 
 held_enough : (size x most : ℕ) → min (x / size) most * size ≤ x
 held_enough size x most =
     let few = mul-le-mul_right size (min-le_left (x / size) most) in
-    let all = div-mul-le_self x size in
-    omega (arith, few, all)
+    let all = div-mul-le_self x size in omega (arith, few, all)
 
 length-held_part : (g : Geometry) (file : List ℕ) → 512 ≤ length file
     → length (held_part g file) ≡ 512 + slots_held g (length file) * g.track_size
@@ -228,17 +216,14 @@ counted_are g [] (head ∷ heads) tracks are counts = absurd are
 counted_are g (file ∷ files) [] tracks are counts = absurd are
 counted_are g (file ∷ files) (head ∷ heads) [] are counts = absurd counts
 counted_are g (file ∷ files) (head ∷ heads) (n ∷ tracks) are counts =
-    let rest = counted_are g files heads tracks are.1 counts.1 in
-    ap (λ (k : ℕ). k ∷ tracks) (counts.0 ∙ ap (slots_held g) (are.0 file refl).0)
-    ∙ ap (λ (l : List ℕ). slots_held g (length file) ∷ l) rest
+    let rest = counted_are g files heads tracks are.1 counts.1 in cc ((are.0 file refl).0)
 
 left_same : (g : Geometry) (files : List (List ℕ)) (heads : List Head) → AllZip IsHeadOf (map Some files) heads
     → left_behind g heads ≡ bytes_left_out g files
 left_same g [] [] are = refl
 left_same g [] (head ∷ heads) are = absurd are
 left_same g (file ∷ files) [] are = absurd are
-left_same g (file ∷ []) (head ∷ []) are =
-    ap (λ (len : ℕ). len - (512 + slots_held g len * g.track_size)) (are.0 file refl).0
+left_same g (file ∷ []) (head ∷ []) are = ap (λ (len : ℕ). len - (512 + slots_held g len * g.track_size)) (are.0 file refl).0
 left_same g (file ∷ []) (head ∷ next ∷ heads) are = absurd are.1
 left_same g (file ∷ second ∷ files) (head ∷ []) are = absurd are.1
 left_same g (file ∷ second ∷ files) (head ∷ next ∷ heads) are = left_same g (second ∷ files) (next ∷ heads) are.1
@@ -247,11 +232,10 @@ pub reaches : (g : Geometry) (contents : List Content) (heads : List Head) (trac
     → AllZip IsHeadOf contents heads
     → AllZip (AreTracks g) heads tracks → lacking ≡ tracks_of g - sum tracks → left_out ≡ left_behind g heads
     → IsReach g contents (record { lacking = lacking; left_out = left_out })
-reaches g contents heads tracks lacking left_out are counts lacking_is left_is files is =
-    let them = those contents heads files is are in (
-      lacking_is ∙ ap (λ (l : List ℕ). tracks_of g - sum l) (counted_are g files heads tracks them counts),
-      left_is ∙ left_same g files heads them,
-    )
+reaches g contents heads tracks lacking left_out are counts lacking_is left_is files is = let them = those contents heads files is are in (
+  lacking_is ∙ ap (λ (l : List ℕ). tracks_of g - sum l) (counted_are g files heads tracks them counts),
+  left_is ∙ left_same g files heads them,
+)
 
 -- what the last of several has behind its slots, by its place
 pub left_at : (g : Geometry) (heads : List Head) (n : ℕ) (d : Head) → length heads ≡ n + 1
@@ -276,8 +260,7 @@ part_range : (g : Geometry) (file : List ℕ) (at n : ℕ) → at + n ≤ length
     → slice_range file at (at + n) ≡ slice_range (held_part g file) at (at + n)
 part_range g file at n within =
     let k = 512 + slots_held g (length file) * g.track_size in
-    ap (λ (bytes : List ℕ). slice_range bytes at (at + n)) (sym (take-append-drop k file))
-    ∙ front_range (take k file) (drop k file) at n within
+    cc (take-append-drop k file, front_range (take k file) (drop k file) at n within)
 
 each_made : (f : List ℕ → List ℕ) (files : List (List ℕ)) → each f (map Some files) ≡ map f files
 each_made f [] = refl
@@ -289,17 +272,15 @@ made_held f (Some file) some = refl
 
 -- the bytes of all slots
 bytes_held : (content : List ℕ → List ℕ) (size : ℕ) (files : List (Option (List ℕ))) (tracks : List ℕ)
-    → HoldTracks content size files tracks
-    → length files ≡ length tracks → length (slot_bytes (each content files)) ≡ sum tracks * size
+    → HoldTracks content size files tracks → length files ≡ length tracks → length (slot_bytes (each content files)) ≡ sum tracks * size
 bytes_held content size [] [] holds count = sym (zero-mul size)
-bytes_held content size [] (n ∷ tracks) holds count = absurd (omega (arith, count))
-bytes_held content size (f ∷ files) [] holds count = absurd (omega (arith, count))
+bytes_held content size [] (n ∷ tracks) holds count = absurd (omega arith)
+bytes_held content size (f ∷ files) [] holds count = absurd (omega arith)
 bytes_held content size (f ∷ files) (n ∷ tracks) holds count =
     let first = tracks_behind content size f files n tracks holds in
-    let ih = bytes_held content size files tracks first.1 (omega (arith, count)) in
-    let all : sum (n ∷ tracks) * size ≡ n * size + sum tracks * size = ap (λ (k : ℕ). k * size) (sum_cons n tracks)
-    ∙ add-mul n (sum tracks) size in
-    rw slot_bytes-cons (length-append (drop 512 (held content [] f)) (slot_bytes (each content files)) ∙ omega (arith, ih, first.0, all))
+    let ih = bytes_held content size files tracks first.1 (omega arith) in
+    let all : sum (n ∷ tracks) * size ≡ n * size + sum tracks * size = cc (sum_cons n tracks, add-mul n (sum tracks) size) in
+    rw slot_bytes-cons (length-append (drop 512 (held content [] f)) (slot_bytes (each content files)) ∙ omega arith)
 
 module _ (g : Geometry) (contents : List Content) (tracks : List ℕ) (track : ℕ) (lie : Lies g contents tracks)
     (count : length contents ≡ length tracks) (exists : track < tracks_of g) where
@@ -314,23 +295,17 @@ module _ (g : Geometry) (contents : List Content) (tracks : List ℕ) (track : �
       let all : contents ≡ map Some files = all_known contents files m.there in
       let stores : List (Option (List ℕ)) = map Some files in
       let l = lie files m.there in
-      let counted : length stores ≡ length tracks = ap length (sym all) ∙ count in
+      let counted : length stores ≡ length tracks = cc in
       let p = place_in tracks track in
       let at = 512 + p.track * g.track_size in
       let there = located_at part g.track_size stores tracks track p l counted inside refl in
       let file = held (λ (f : List ℕ). f) [] (file_at stores p.file) in
-      let here : get_or contents p.file None ≡ Some file = ap (λ (c : List Content). get_or c p.file None) all
-      ∙ some_held (file_at stores p.file) there.there in
+      let here : get_or contents p.file None ≡ Some file = cc (some_held (file_at stores p.file) there.there) in
       let part_is : held part [] (file_at stores p.file) ≡ part file = made_held part (file_at stores p.file) there.there in
       let within : at + g.track_size ≤ length (part file) =
       subst (λ (bytes : List ℕ). at + g.track_size ≤ length bytes) part_is there.within in
-      stands file here ∙ ap (λ (n : ℕ). slice_range file at (at + n)) size
-      ∙ part_range g file at g.track_size within
-      ∙ ap (λ (bytes : List ℕ). slice_range bytes at (at + g.track_size)) (sym part_is)
-      ∙ range_located part g.track_size stores track at p there refl
-      ∙ ap (λ (cs : List (List ℕ)). slice_range (slot_bytes cs) (track * g.track_size) (track * g.track_size + g.track_size))
-      (each_made part files)
-      ∙ slot_is g (map part files) track exists ∙ ap (λ (s : List (List ℕ)). get_or s track []) (sym m.is)
+      let one = range_located part g.track_size stores track at p there refl in
+      cc (stands file here, part_range g file at g.track_size within, each_made part files, slot_is g (map part files) track exists)
 
   -- a track that the files lack has a slot without bytes
   slot_lacking : sum tracks ≤ track → IsSlotOf (volume_in g contents) track []
@@ -341,14 +316,13 @@ module _ (g : Geometry) (contents : List Content) (tracks : List ℕ) (track : �
       let all : contents ≡ map Some files = all_known contents files m.there in
       let stores : List (Option (List ℕ)) = map Some files in
       let l = lie files m.there in
-      let counted : length stores ≡ length tracks = ap length (sym all) ∙ count in
+      let counted : length stores ≡ length tracks = cc in
       let bytes = slot_bytes (map part files) in
-      let long : length bytes ≡ sum tracks * g.track_size = ap (λ (cs : List (List ℕ)). length (slot_bytes cs)) (sym (each_made part files))
-      ∙ bytes_held part g.track_size stores tracks l counted in
+      let two = bytes_held part g.track_size stores tracks l counted in
+      let long : length bytes ≡ sum tracks * g.track_size = cc (each_made part files) in
       let most = mul-le-mul_right g.track_size past in
-      let none : drop (track * g.track_size) bytes ≡ [] = drop_all (track * g.track_size) bytes (omega (arith, long, most)) in
-      sym (take-nil g.track_size) ∙ sym (ap (take g.track_size) none) ∙ sym (range_is bytes (track * g.track_size) g.track_size)
-      ∙ slot_is g (map part files) track exists ∙ ap (λ (s : List (List ℕ)). get_or s track []) (sym m.is)
+      let none : drop (track * g.track_size) bytes ≡ [] = drop_all (track * g.track_size) bytes (omega arith) in
+      cc (take-nil g.track_size, range_is bytes (track * g.track_size) g.track_size, slot_is g (map part files) track exists)
 
   -- so many bytes of a slot were read
   pub slot_loaded : (slot : List ℕ) (bytes : ℕ) → length slot ≡ g.track_size → (track < sum tracks → (bytes ≡ length slot)

@@ -1,7 +1,6 @@
 -- Why the volume in files is not opened.
-use Rattle.std.proofs.Common.{◌≡◌, Bool, false, ◌∙◌, ◌⊎◌, inl, inr, ℕ, ◌+◌, ◌<◌}
-use Rattle.std.proofs.Common.{◌≤◌, List, [], ◌∷◌, ◌++◌, length, take, map, get_or, Some, refl}
-use Rattle.std.proofs.Common.{sym, ap, subst, arith}
+use Rattle.std.proofs.Common.{◌≡◌, Bool, false, ◌∙◌, ◌⊎◌, inl, inr, ℕ, ◌+◌, ◌<◌, ◌≤◌, List, [], ◌∷◌, ◌++◌, length, take, map, get_or, Some}
+use Rattle.std.proofs.Common.{refl, sym, ap, subst, arith}
 use Rattle.std.specs.List.{AllZip}
 use Rattle.std.proofs.lemmas.List.{take_all, take_more, take-map, length-map, length-take-le, map-append}
 use Rattle.ckd_image.specs.declared.fault.MountFault.{MountFault}
@@ -87,8 +86,7 @@ module _ {P : Type 0} (path : P → List ℕ) (paths : List P) (before : List So
       let long = length-map (take i paths) path in
       let those = length-take-le i paths (omega arith) in
       let some = not.1 in
-      let all = length-map paths path in
-      inr (
+      let all = length-map paths path in inr (
         ap Mount not.0,
         i,
         omega (arith, both, count, long, those, some),
@@ -112,8 +110,7 @@ read_whole : (files bytes : List (List ℕ)) → AllZip IsWhole (map Some files)
 read_whole [] [] are = refl
 read_whole [] (b ∷ bytes) are = absurd are
 read_whole (file ∷ files) [] are = absurd are
-read_whole (file ∷ files) (b ∷ bytes) are =
-    ap (λ (x : List ℕ). x ∷ bytes) (are.0 file refl) ∙ ap (λ (l : List (List ℕ)). file ∷ l) (read_whole files bytes are.1)
+read_whole (file ∷ files) (b ∷ bytes) are = cc (are.0 file refl, read_whole files bytes are.1)
 
 pub not_an_image : (f : JobFault) (paths : List (List ℕ)) (contents : List Content) (bytes : List (List ℕ)) (before now : List SourceFile)
     → OpensPaths paths contents before now → AllZip IsWhole contents bytes → IsNoImage f bytes → NotOpened false f paths before now

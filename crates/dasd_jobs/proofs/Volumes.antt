@@ -1,7 +1,7 @@
 -- Volumes in files that were opened.
-use Rattle.std.proofs.Common.{◌≡◌, ◌∙◌, ℕ, zero, suc, ◌+◌, ◌-◌, ◌<◌, ◌≤◌, List, [], ◌∷◌, ◌++◌, length, take, drop, map}
-use Rattle.std.proofs.Common.{replicate, get_or, set, slice_range, nat_lt, true, Option, Some, None, IsSome, Result, Ok, Err, option_map}
-use Rattle.std.proofs.Common.{◌⊎◌, inl, inr, refl, sym, ap, subst, arith, length-append, append_assoc, append-nil}
+use Rattle.std.proofs.Common.{◌≡◌, ◌∙◌, ℕ, zero, suc, ◌+◌, ◌-◌, ◌<◌, ◌≤◌, List, [], ◌∷◌, ◌++◌, length, take, drop, map, replicate, get_or}
+use Rattle.std.proofs.Common.{set, nat_lt, true, Option, Some, None, IsSome, Result, Ok, Err, option_map, ◌⊎◌, inl, inr, refl}
+use Rattle.std.proofs.Common.{sym, ap, subst, arith, length-append, append_assoc, append-nil}
 use Rattle.std.specs.List.{AllZip}
 use Rattle.std.proofs.lemmas.Bool.{cases_lt, lt-ltb}
 use Rattle.std.proofs.lemmas.List.{take_at, take_all, take_more, length-take-le, length-replicate, length-set, map-append, map-set}
@@ -14,8 +14,7 @@ use Rattle.ckd_image.specs.declared.fault.MountFault.{MountFault}
 use Rattle.ckd_image.specs.Files.{each, held}
 use Rattle.ckd_image.proofs.Writes.{range_is}
 use Rattle.dasd_jobs.specs.declared.reasons.Head.{Head}
-use Rattle.dasd_jobs.specs.Sources.{Content, SourceFile, IsLength, StandsIn, IsHeader, IsWhole, OpensPaths, sources}
-use Rattle.dasd_jobs.specs.Sources.{known}
+use Rattle.dasd_jobs.specs.Sources.{Content, SourceFile, IsLength, StandsIn, IsHeader, IsWhole, OpensPaths, sources, known}
 use Rattle.dasd_jobs.specs.Opening.{IsHeadOf, AreTracks, AddsFile, alone}
 
 -- Lists.
@@ -60,15 +59,13 @@ some_held (Some file) some = refl
 -- Headers.
 
 pub length_alone : (head : Head) → length (alone head) ≡ head.len
-length_alone head =
-    length-take-le head.len (head.header ++ replicate head.len 0)
+length_alone head = length-take-le head.len (head.header ++ replicate head.len 0)
     (let all = length-append head.header (replicate head.len 0) in let zeros = length-replicate {A = ℕ} head.len 0 in
     omega (arith, all, zeros))
 
 pub same_seen : (a b : List ℕ) (n m : ℕ) → a ≡ b → n ≡ m → ◌≡◌ {A = mounting.Head} (record { header = a; len = n }) (record {
   header = b;
-  len =
-      m;
+  len = m;
 })
 same_seen a b n m same_bytes same_number = rw (same_bytes, same_number) refl
 
@@ -77,10 +74,9 @@ pub alone_head : (head : Head) → length head.header ≡ 512 → 512 ≤ head.l
     → ◌≡◌ {A = mounting.Head} (head_of (alone head)) (record { header = head.header; len = head.len })
 alone_head head long enough =
     let zeros = replicate head.len 0 in
-    let split : head.len ≡ length head.header + (head.len - 512) = omega (arith, long, enough) in
-    let whole : alone head ≡ head.header ++ take (head.len - 512) zeros =
-    ap (λ (n : ℕ). take n (head.header ++ zeros)) split ∙ take-append-add head.header zeros (head.len - 512) in
-    let front : take 512 (alone head) ≡ head.header = ap (take 512) whole ∙ take_at head.header (take (head.len - 512) zeros) 512 long in
+    let split : head.len ≡ length head.header + (head.len - 512) = omega arith in
+    let whole : alone head ≡ head.header ++ take (head.len - 512) zeros = cc (take-append-add head.header zeros (head.len - 512)) in
+    let front : take 512 (alone head) ≡ head.header = cc (take_at head.header (take (head.len - 512) zeros) 512 long) in
     same_seen (take 512 (alone head)) head.header (length (alone head)) head.len front (length_alone head)
 
 -- a file with this header and length is looked at as its header with zeros behind it
@@ -100,9 +96,8 @@ same_header file head is = by (cases_lt (length file) 512)
         let long = (is file refl).0 in
         let all = length_alone head in
         let one : nat_lt (length file) 512 ≡ true = lt-ltb (length file) 512 short in
-        let other : nat_lt (length (alone head)) 512 ≡ true = lt-ltb (length (alone head)) 512 (omega (arith, long, all, short)) in
-        rw (one, other) refl
-    by (inr enough) = let long = (is file refl).0 in ap header_of (same_head file head is (omega (arith, long, enough)))
+        let other : nat_lt (length (alone head)) 512 ≡ true = lt-ltb (length (alone head)) 512 (omega arith) in rw (one, other) refl
+    by (inr enough) = let long = (is file refl).0 in ap header_of (same_head file head is (omega arith))
 
 pub then_same : {A B : Type 0} (r : Result A MountFault) (f g : A → Result B MountFault) → ((a : A) → f a ≡ g a)
     → then_with r f ≡ then_with r g
@@ -136,13 +131,11 @@ next_counted g heads tracks now i d n inside is so_far one =
 -- what was read of a header, and of one that is too short
 pub head_read : (content : Content) (header : List ℕ) (len : ℕ) → IsLength content len → StandsIn content 0 header → length header ≡ 512
     → IsHeadOf content (record { header = header; len = len })
-head_read content header len is stands long bytes e =
-    (is bytes e, λ enough. stands bytes e ∙ ap (λ (n : ℕ). slice_range bytes 0 (0 + n)) long ∙ range_is bytes 0 512)
+head_read content header len is stands long bytes e = (is bytes e, λ enough. cc (stands bytes e, range_is bytes 0 512))
 
 pub short_head : (content : Content) (header : List ℕ) (len : ℕ) → IsLength content len → len < 512
     → IsHeadOf content (record { header = header; len = len })
-short_head content header len is short bytes e =
-    (is bytes e, λ enough. absurd (let same = is bytes e in omega (arith, same, short, enough)))
+short_head content header len is short bytes e = (is bytes e, λ enough. absurd (let same = is bytes e in omega arith))
 
 -- one more header of several files was read
 pub next_header : (contents : List Content) (i : ℕ) (headers : List (List ℕ)) (header : List ℕ) → i < length contents
@@ -156,8 +149,7 @@ next_header contents i headers header inside so_far one =
 pub next_alone : (heads : List Head) (i : ℕ) (d : Head) (before now : List (List ℕ)) (one : List ℕ) → i < length heads
     → before ≡ map alone (take i heads) → now ≡ before ++ one ∷ [] → one ≡ alone (get_or heads i d) → now ≡ map alone (take (i + 1) heads)
 next_alone heads i d before now one inside so_far is one_is =
-    is ∙ ap (λ (l : List (List ℕ)). l ++ one ∷ []) so_far ∙ ap (λ (x : List ℕ). map alone (take i heads) ++ x ∷ []) one_is
-    ∙ sym (ap (map alone) (take_more heads i d inside) ∙ map-append alone (take i heads) (get_or heads i d ∷ []))
+    cc (is, take_more heads i d inside, map-append alone (take i heads) (get_or heads i d ∷ []))
 
 -- One of several files.
 
@@ -169,8 +161,7 @@ module _ {O : Type 0} (content : O → Content) where
   pub kept_there : (files : List O) (place : ℕ) (file new : O) → place < length files → file ≡ get_or files place file
       → content new ≡ content file → map content (set files place new) ≡ map content files
   kept_there files place file new inside is same =
-      map-set content files place new ∙ ap (set (map content files) place) (same ∙ sym (read_there files place file inside is))
-      ∙ set-get_or (map content files) place None
+      cc (map-set content files place new, read_there files place file inside is, set-get_or (map content files) place None)
 
   -- files that were lent stand again in their place
   pub lent_kept : (files new : List O) (len : ℕ) → length new ≡ length files → len ≡ length files → map content new ≡ map content files
@@ -203,12 +194,10 @@ none_opened before = record { opened = sym (append-nil before); count = refl }
 pub one_more_opened : (paths : List (List ℕ)) (contents : List Content) (path : List ℕ) (content : Content)
     (before between now : List SourceFile) → OpensPaths paths contents before between → now ≡ between ++ record {
       path = path;
-      content =
-          content;
+      content = content;
     } ∷ [] → OpensPaths (paths ++ path ∷ []) (contents ++ content ∷ []) before now
 one_more_opened paths contents path content before between now so_far one = record {
-  opened =
-      one ∙ ap (λ (l : List SourceFile). l ++ record { path = path; content = content } ∷ []) so_far.opened
+  opened = one ∙ ap (λ (l : List SourceFile). l ++ record { path = path; content = content } ∷ []) so_far.opened
       ∙ append_assoc before (sources paths contents) (record { path = path; content = content } ∷ [])
       ∙ ap (λ (l : List SourceFile). before ++ l) (sym (sources_more paths contents path content so_far.count));
   count = let c = so_far.count in let a = length-append contents (content ∷ []) in let b = length-append paths (path ∷ []) in
@@ -236,12 +225,10 @@ next_opened path paths i d before o more inside so_far a =
     let paths_are : map path (take (i + 1) paths) ≡ map path (take i paths) ++ p ∷ [] = ap (map path) (take_more paths i d inside)
     ∙ map-append path (take i paths) (get_or paths i d ∷ []) in
     record {
-      opens =
-          subst (λ (ps : List (List ℕ)). OpensPaths ps more.contents before more.opened) (sym paths_are)
+      opens = subst (λ (ps : List (List ℕ)). OpensPaths ps more.contents before more.opened) (sym paths_are)
           (subst (λ (cs : List Content). OpensPaths (map path (take i paths) ++ p ∷ []) cs before more.opened) (sym a.adds.file)
           (one_more_opened (map path (take i paths)) o.contents p a.content before o.opened more.opened so_far.opens a.opened));
-      are =
-          subst (λ (cs : List Content). AllZip IsHeadOf cs more.heads) (sym a.adds.file)
+      are = subst (λ (cs : List Content). AllZip IsHeadOf cs more.heads) (sym a.adds.file)
           (subst (λ (hs : List Head). AllZip IsHeadOf (o.contents ++ a.content ∷ []) hs) (sym a.adds.headed)
           (and_both IsHeadOf o.contents o.heads a.content a.adds.head so_far.are a.adds.is_head));
     }

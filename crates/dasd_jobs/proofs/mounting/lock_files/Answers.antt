@@ -1,4 +1,4 @@
-use Rattle.std.proofs.Common.{◌≡◌, ◌∙◌, map}
+use Rattle.std.proofs.Common.{◌∙◌, map}
 use Rattle.std.proofs.lemmas.Result.{err_from_is_err_and}
 use Rattle.dasd_jobs.proofs.Volumes.{Opening, next_opened}
 use Rattle.dasd_jobs.proofs.Unopened.{stopped_locking}
@@ -28,8 +28,7 @@ pub returns-in_err-lock_file-clause-not_locked : goal.returns-in_err-lock_file-c
 returns-in_err-lock_file-clause-not_locked g c =
     let opened = g.F.ImageFiles.opened in
     let i = c.loop-path.invariant in
-    let p = err_from_is_err_and c.from_residual.result c.from_residual.ensures.1 in
-    rw (p.1, p.2) (
+    let p = err_from_is_err_and c.from_residual.result c.from_residual.ensures.1 in rw (p.1, p.2) (
     stopped_locking (λ path. path.now) c.args.paths.now (opened c.args.files.now) c.in_err-lock_file.field-0.0 c.loop-path.path-index _
     (map g.F.Opened.OpenedFile.content c.loop-path.locked.items) c.loop-path.heads.items
     (opened c.loop-path.files) (opened c.lock_file.new.files) c.loop-path-test.true i.opens i.heads c.in_err-lock_file.ensures.not_locked)

@@ -1,4 +1,4 @@
-use Rattle.std.proofs.Common.{◌≡◌, ◌∙◌, ◌+◌, ◌++◌, ◌∷◌, [], None, List, ℕ, length, map, take, slice_index_or, subst, sym, ap, arith}
+use Rattle.std.proofs.Common.{◌∙◌, ◌+◌, ◌++◌, ◌∷◌, [], None, List, ℕ, length, map, take, slice_index_or, subst, sym, ap, arith}
 use Rattle.std.specs.List.{AllZip}
 use Rattle.std.proofs.lemmas.List.{take_all, length-map}
 use Rattle.ckd_image.specs.Files.{each}
@@ -15,14 +15,12 @@ loop-i-preserved g c =
     let i = c.loop-i.invariant in
     let bytes = c.in_ok-bytes.bytes.items in
     let made = c.new.ensures in
-    let held = ap (λ (f : FileState). f.content) made in
-    record {
+    let held = ap (λ (f : FileState). f.content) made in record {
       there = c.append.ensures.there;
       as_made = c.append.ensures.as_made i.as_made (held ∙ sym (ap (λ (f : FileState). f.origin) made));
       count = (let count = c.append.ensures.count in let so_far = i.count in omega (arith, count, so_far));
       same = c.read_bytes.ensures.kept ∙ i.same;
-      whole =
-          subst (λ (l : List (List ℕ)). AllZip IsWhole (take (c.loop-i.i + 1) contents) l)
+      whole = subst (λ (l : List (List ℕ)). AllZip IsWhole (take (c.loop-i.i + 1) contents) l)
           (sym (c.append.ensures.content ∙ ap (λ (b : List ℕ). each (λ (f : FileState). f.content) c.loop-i.stores.items ++ b ∷ []) held))
           (whole_more contents c.args.heads.now c.loop-i.i _ (each (λ (f : FileState). f.content) c.loop-i.stores.items) bytes
           (let inside = c.loop-i-test.true in let same = both_long IsHeadOf contents c.args.heads.now c.requires.heads in
@@ -46,8 +44,7 @@ read_bytes-requires g c =
     let now = length-map c.loop-i.locked.items content in
     let same = ap length c.loop-i.invariant.same in
     let heads = both_long IsHeadOf (map content c.args.locked.now.items) c.args.heads.now c.requires.heads in
-    let inside = c.loop-i-test.true in
-    omega (arith, before, now, same, heads, inside)
+    let inside = c.loop-i-test.true in omega (arith, before, now, same, heads, inside)
 
 pub append-requires-clause-room : goal.append-requires-clause-room
 append-requires-clause-room g c =
@@ -55,5 +52,4 @@ append-requires-clause-room g c =
     let heads = both_long IsHeadOf (map g.O.OpenedFile.content c.args.locked.now.items) c.args.heads.now c.requires.heads in
     let room = c.requires.room in
     let so_far = c.loop-i.invariant.count in
-    let inside = c.loop-i-test.true in
-    omega (arith, long, heads, room, so_far, inside)
+    let inside = c.loop-i-test.true in omega (arith, long, heads, room, so_far, inside)

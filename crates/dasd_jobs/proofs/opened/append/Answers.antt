@@ -1,10 +1,7 @@
-use Rattle.std.proofs.Common.{◌≡◌, ◌∙◌, ◌∷◌, [], Some, ap}
-use Rattle.ckd_image.specs.Files.{each}
+use Rattle.std.proofs.Common.{◌∷◌, [], Some}
 use Rattle.ckd_image.specs.Store.{Stored}
 use Rattle.ckd_image.proofs.ReadLemmas.{each-append}
 use Rattle.dasd_jobs.proofs.opened.append.Goals as goal
 
 pub returns-clause-content : goal.returns-clause-content
-returns-clause-content c =
-    ap (each (λ (s : Stored). s.content)) c.push.ensures.items ∙ each-append (λ (s : Stored). s.content) c.args.stores.now.items
-    (Some c.args.store ∷ [])
+returns-clause-content c = cc (each-append (λ (s : Stored). s.content) c.args.stores.now.items (Some c.args.store ∷ []))

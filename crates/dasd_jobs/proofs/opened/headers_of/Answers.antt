@@ -1,5 +1,5 @@
-use Rattle.std.proofs.Common.{◌≡◌, ◌∙◌, ◌+◌, ◌++◌, ◌∷◌, ◌<◌, [], None, List, ℕ, length, map, take, slice_index_or, subst, sym}
-use Rattle.std.proofs.Common.{arith, rules, tests}
+use Rattle.std.proofs.Common.{◌≡◌, ◌∙◌, ◌+◌, ◌++◌, ◌∷◌, ◌<◌, [], None, List, ℕ, length, map, take, slice_index_or, subst, sym, arith, rules}
+use Rattle.std.proofs.Common.{tests}
 use Rattle.std.specs.List.{AllZip}
 use Rattle.std.proofs.lemmas.List.{length-map}
 use Rattle.dasd_jobs.specs.Sources.{Content, IsHeader}
@@ -16,8 +16,7 @@ loop-i-preserved g c =
     (let below = c.loop-i-test.true in let long = length-map c.args.files.now.items content in omega (arith, below, long)) in
     record {
       same = c.header_of.ensures.kept ∙ i.same;
-      headers =
-          subst (λ (l : List (List ℕ)). AllZip IsHeader (take (c.loop-i.i + 1) contents) l) (sym pushed)
+      headers = subst (λ (l : List (List ℕ)). AllZip IsHeader (take (c.loop-i.i + 1) contents) l) (sym pushed)
           (next_header contents c.loop-i.i c.loop-i.headers.items c.in-Ok.header inside i.headers
           (subst (λ (cs : List Content). IsHeader (slice_index_or cs c.loop-i.i None) c.in-Ok.header) i.same c.in-Ok.ensures.header));
     }

@@ -23,8 +23,7 @@ pub returns-then-is_full-clause-not_mounted : goal.returns-then-is_full-clause-n
 returns-then-is_full-clause-not_mounted c few =
     let more = c.loop-i-test.true in
     let so_far = c.loop-i.invariant.count in
-    let full : 8 ≤ length c.loop-i.stores.items = search (rules, tests) in
-    absurd (omega (arith, few, more, so_far, full))
+    let full : 8 ≤ length c.loop-i.stores.items = search (rules, tests) in absurd (omega (arith, few, more, so_far, full))
 
 pub returns-in-Ok-clause-mounts : goal.returns-in-Ok-clause-mounts
 returns-in-Ok-clause-mounts c =

@@ -51,8 +51,7 @@ returns-in-Ok-clause-mounts g c =
 pub returns-in_err-add_file-clause-not_opened : goal.returns-in_err-add_file-clause-not_opened
 returns-in_err-add_file-clause-not_opened g c =
     let opened = g.F.ImageFiles.opened in
-    let p = err_from_is_err_and c.from_residual.result c.from_residual.ensures.1 in
-    rw (p.1, p.2) (
+    let p = err_from_is_err_and c.from_residual.result c.from_residual.ensures.1 in rw (p.1, p.2) (
     stopped (λ path. path.now) c.args.paths.now (opened c.args.files.now) c.args.as_far c.in_err-add_file.field-0.0 c.loop-path.path-index _
     (map g.F.Opened.OpenedFile.content c.loop-path.opened.items)
     (opened c.loop-path.files) (opened c.add_file.new.files) c.loop-path-test.true c.loop-path.invariant.opens

@@ -1,4 +1,4 @@
-use Rattle.std.proofs.Common.{◌∙◌, ◌<◌, None, OnOk, length, map, slice_index_or, subst, sym, ap, arith}
+use Rattle.std.proofs.Common.{◌<◌, OnOk, length, subst, sym, ap, arith}
 use Rattle.dasd_jobs.specs.Sources.{Content, StandsIn}
 use Rattle.dasd_jobs.proofs.Volumes.{read_there, one_read}
 use Rattle.dasd_jobs.proofs.opened.read_from.Goals as goal
@@ -11,14 +11,11 @@ returns g c =
     let is = c.as_mut_slice-files.ensures.value in
     let file = c.index-files-place.result in
     let place = c.args.place in
-    let inside : place < length lent = (let same = ap length is in let count = files.ok.0 in let there = c.requires in
-    omega (arith, same, count, there)) in
-    let is_file = c.index-files-place.is in
-    record {
-      read =
-          subst (λ (known : Content). OnOk c.read_at.result (StandsIn known c.args.at c.read_at.new.into))
-          (sym (ap (λ l. slice_index_or (map content l) place None) (sym is) ∙ read_there content lent place file inside is_file
-          ∙ ap content is_file)) c.read_at.ensures.read;
-      kept = one_read content files.items lent files.len place file c.read_at.new.self is files.ok.0 inside is_file (c.read_at.ensures.kept
-          ∙ ap content (sym is_file));
+    let inside : place < length lent = (let same = ap length is in
+    let count = files.ok.0 in
+    let there = c.requires in omega arith) in
+    let is_file = c.index-files-place.is in record {
+      read = subst (λ (known : Content). OnOk c.read_at.result (StandsIn known c.args.at c.read_at.new.into))
+          (sym (cc (read_there content lent place file inside is_file))) c.read_at.ensures.read;
+      kept = one_read content files.items lent files.len place file c.read_at.new.self is files.ok.0 inside is_file (cc);
     }

@@ -1,11 +1,10 @@
-use Rattle.std.proofs.Common.{◌∙◌, ◌-◌, ◌∷◌, [], List, ℕ, map, sym, ap, subst, arith, length-append}
-use Rattle.std.specs.List.{AllZip, sum}
+use Rattle.std.proofs.Common.{◌∙◌, ◌∷◌, [], List, map, sym, subst, arith, length-append}
+use Rattle.std.specs.List.{AllZip}
 use Rattle.std.proofs.lemmas.List.{length-map, take_all}
 use Rattle.dasd_jobs.specs.declared.reasons.Head.{Head}
 use Rattle.dasd_jobs.specs.Opening.{IsHeadOf, AreTracks}
 use Rattle.dasd_jobs.proofs.Volumes.{both_long, next_counted}
 use Rattle.dasd_jobs.proofs.Reached.{lies, reaches}
-use Rattle.ckd_track.specs.Geometry.{tracks_of}
 use Rattle.dasd_jobs.proofs.opened.volume_of.Goals as goal
 
 pub loop-head-preserved : goal.loop-head-preserved
@@ -22,13 +21,11 @@ invariant_of-result g c =
     let heads = c.args.heads.now in
     let tracks = c.loop-head.tracks.items in
     let geometry = c.args.geometry in
-    let all = take_all c.loop-head.head-index heads (let past = c.loop-head-test.false in omega (arith, past)) in
+    let all = take_all c.loop-head.head-index heads (let past = c.loop-head-test.false in omega arith) in
     let counts = subst (λ (l : List Head). AllZip (AreTracks geometry) l tracks) all c.loop-head.invariant.counts in (
       c.requires.valid,
       sym (length-map c.args.files.items g.O.OpenedFile.content) ∙ both_long IsHeadOf contents heads c.requires.heads
           ∙ both_long (AreTracks geometry) heads tracks counts,
       lies geometry contents heads tracks c.requires.heads counts c.requires.long,
-      reaches geometry contents heads tracks _ _ c.requires.heads counts
-          (c.lacking.ensures ∙ ap (λ (n : ℕ). n - sum c.as_slice.result.now) c.tracks.ensures
-          ∙ ap (λ (l : List ℕ). tracks_of geometry - sum l) c.as_slice.ensures.value) c.left_out.ensures,
+      reaches geometry contents heads tracks _ _ c.requires.heads counts (cc) c.left_out.ensures,
     )

@@ -71,10 +71,7 @@ module _ {M : Type 1} {𝓤 : Ura M} (𝓛 : Logic 𝓤) (at_mem : Memory → SP
         regoal ! (λ (us : List Val). prop (WpFn 𝓤 H C Λ function (u ∷ (us ++ [])) Post)) is₁ refl $
         enter ! C Λ function (u ∷ w ∷ []) Post $ alloc_all ! (λ l. pass_all ! refl (
           (tt, tt),
-          (
-            (tt, (tt, (record { fits = rm.0 }, tt))),
-            tt,
-          ),
+          ((tt, (tt, (record { fits = rm.0 }, tt))), tt),
         ) $
         sets ! (agg ! (no_more !)) refl (tt, tt) $
         nothing ! $ none_made ! $ fjoin ! $
@@ -83,11 +80,10 @@ module _ {M : Type 1} {𝓤 : Ura M} (𝓛 : Logic 𝓤) (at_mem : Memory → SP
         nothing ! $ nothing ! $ fjoin ! $ nothing ! $ fjoin ! $ move ! (2 ∷ 0 ∷ 1 ∷ []) $ done !))))
 
   meets : (𝓣 : Tables 𝓤 H) → Meets 𝓛 ended.signature (WpFn 𝓤 H 𝓣.C 𝓣.Λ function) (closing 𝓛 ended held)
-  meets 𝓣 =
-      walk_Meets 𝓛 ended stayed (
-        Goes-dropped 𝓛 2 (RefOf (0 ∷ []) tt (plain (λ _. Sources.the_row)) (λ _. tt)) yes (λ κs x f. refl),
-        (Goes-dropped 𝓛 2 (SliceRefOf (1 ∷ []) tt (plain (λ _. u8)) (λ _. tt)) yes (λ κs x f. refl), tt),
-      ) held
+  meets 𝓣 = walk_Meets 𝓛 ended stayed (
+    Goes-dropped 𝓛 2 (RefOf (0 ∷ []) tt (plain (λ _. Sources.the_row)) (λ _. tt)) yes (λ κs x f. refl),
+    (Goes-dropped 𝓛 2 (SliceRefOf (1 ∷ []) tt (plain (λ _. u8)) (λ _. tt)) yes (λ κs x f. refl), tt),
+  ) held
       (WpFn 𝓤 H 𝓣.C 𝓣.Λ function) (WpFn-mono 𝓤 H 𝓛.laws 𝓣 function) (walks 𝓣.C 𝓣.Λ)
 
 pub with_unknown_spec : {M : Type 1} → stated.statement M
