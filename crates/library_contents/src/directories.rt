@@ -6,15 +6,21 @@ ghost use Rattle.library_contents.specs.Directories.{AreEntriesOf, user_data};
 use std::alloc::{AllocError, Global};
 use volume_labels::{DirectoryEntry, DirectoryStep, directory_step};
 
-/// An entry of a directory, and the offset behind it in the directory's blocks.
+/// An entry of a directory, and where it ends in the directory's blocks.
 #[derive(Clone, Copy)]
-pub(crate) struct PlacedEntry {
-    pub(crate) entry: DirectoryEntry,
-    pub(crate) end: usize,
+pub struct PlacedEntry {
+    /// The entry.
+    pub entry: DirectoryEntry,
+    /// The offset of the byte after it.
+    pub end: usize,
 }
 
-/// The entries in the blocks of a directory, if nothing is wrong behind them.
-pub(crate) fn placed_entries(
+/// The entries in the blocks of a directory, one block after another without keys, if nothing is wrong after them.
+///
+/// # Errors
+///
+/// There is no memory for them.
+pub fn placed_entries(
     alloc: Global,
     bytes: &[u8],
 ) -> Result<Option<Vec<PlacedEntry>>, AllocError>
@@ -47,7 +53,7 @@ fn push(entries: &mut Vec<PlacedEntry>, entry: PlacedEntry) -> Result<(), AllocE
 }
 
 /// The user data of an entry, with which it ends.
-pub(crate) fn user_data<'a>(bytes: &'a [u8], placed: PlacedEntry) -> &'a [u8]
+pub fn user_data<'a>(bytes: &'a [u8], placed: PlacedEntry) -> &'a [u8]
     ensures { result.now ≡ user_data bytes.now placed }
 {
     let PlacedEntry { entry, end } = placed;

@@ -16,6 +16,7 @@ mod notes;
 mod report;
 
 pub use crate::contents::{LibraryContents, LibraryReadFault, ReadEntry, ReadNote};
+pub use crate::directories::{PlacedEntry, placed_entries, user_data};
 pub use crate::laws::{entries_are_those_of_the_directory, number_is_where_they_begin};
 pub use crate::libraries::read_library;
 pub use crate::lines::MembersForm;

@@ -9,5 +9,4 @@ pub mod MemberEntries
 pub mod Faults
 pub mod Libraries
 pub mod MemberLoads
-pub mod Names
 pub mod MemberParts

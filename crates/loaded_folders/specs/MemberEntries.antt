@@ -3,8 +3,7 @@ use Rattle.std.specs.Prelude.{ℕ, ◌+◌, ◌==◌, not, Bool, true, false, Li
 use Rattle.std.specs.List.{position, list_any}
 use Rattle.std.specs.Ordering.{nat_cmp}
 use Rattle.std.specs.Cmp.Lexicographic.{slice_cmp}
-use Rattle.std.specs.declared.cmp.Ordering.{Ordering}
-use Rattle.std.specs.declared.cmp.Ordering.TheVariants.{Less, Equal, Greater}
+use Rattle.member_changes.specs.Entries.{is_less, place_or}
 use Rattle.library_contents.specs.declared.contents.ReadEntry.{ReadEntry}
 use Rattle.library_contents.specs.declared.contents.ReadNote.{ReadNote}
 use Rattle.record_tracks.specs.declared.libraries.MemberEntry.{MemberEntry}
@@ -60,20 +59,9 @@ from_one None = None
 abbrev pub note_list : List ReadEntry → Option ℕ
 note_list entries = from_one (position has_note_list entries)
 
--- of two names the first is less in the collating sequence of EBCDIC
-abbrev pub is_less : Ordering → Bool
-is_less Less = true
-is_less Equal = false
-is_less Greater = false
-
 -- an entry comes behind a name in it, byte by byte
 abbrev pub comes_behind : (name : List ℕ) → ReadEntry → Bool
 comes_behind name e = is_less (slice_cmp nat_cmp name e.entry.name)
-
--- a place, or behind all
-abbrev pub place_or : (all : ℕ) → Option ℕ → ℕ
-place_or all (Some place) = place
-place_or all None = all
 
 -- how many entries stand before one of a name: those before the first that comes behind it
 abbrev pub place_for : (name : List ℕ) → List ReadEntry → ℕ

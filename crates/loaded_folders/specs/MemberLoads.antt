@@ -15,7 +15,7 @@ use Rattle.loaded_folders.specs.declared.member_fault.NewMemberRefusal.{NewMembe
 use Rattle.loaded_folders.specs.declared.member_fault.NewMemberRefusal.TheVariants as refusal
 use Rattle.loaded_folders.specs.declared.member_saves.NewMemberFile.{NewMemberFile}
 use Rattle.loaded_folders.specs.Added.{Added, Refuses}
-use Rattle.loaded_folders.specs.Names.{is_member_name}
+use Rattle.member_changes.specs.Names.{is_member_name}
 
 -- what is printed of a member that was put into a library with so many tracks
 abbrev pub added_line : (library member : List ℕ) → (tracks : ℕ) → List ℕ

@@ -33,7 +33,7 @@ pub use crate::directory_faults::{EntryFault, RefusedEntry, refused_entry};
 pub use crate::entries::NewEntry;
 pub use crate::last_places::{LastPlace, last_place};
 pub use crate::libraries::{MemberEntry, MemberNote, NewLibrary, NewMember};
-pub use crate::library_directories::library_directory;
+pub use crate::library_directories::{directory_fault, library_directory};
 pub use crate::library_faults::LibraryFault;
 pub use crate::line_records::text_records;
 pub use crate::member_records::library_records;

@@ -77,8 +77,8 @@ fn new_entries<'a>(
     Ok(all)
 }
 
-// Why a directory of so many blocks can't have these entries.
-fn directory_fault(entries: &[NewEntry], blocks: usize) -> Option<LibraryFault>
+/// Why a directory of so many blocks can't have these entries: the first entry that no directory can have, or else too few blocks.
+pub fn directory_fault(entries: &[NewEntry], blocks: usize) -> Option<LibraryFault>
     ensures fault { result ≡ directory_fault blocks (all_contents entries.now) }
     ensures entries { IfNone result (AreEntries (all_contents entries.now)) }
     ensures room { IfNone result (left_behind (all_entries (all_contents entries.now)) blocks ≡ []) }

@@ -1,7 +1,7 @@
 //! The names that a member may be given.
 
 ghost use Rattle.std.specs.Prelude.{◌≡◌};
-ghost use Rattle.loaded_folders.specs.Names.{joins_names, has_joint, MakesMember};
+ghost use Rattle.member_changes.specs.Names.{joins_names, has_joint, MakesMember};
 
 use dasd_extract::member_name;
 use volume_changes::new_set_name;
