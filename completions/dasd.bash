@@ -122,7 +122,7 @@ _dasd() {
         _dasd_files
         ;;
     check)
-        if [[ $word == -* ]]; then _dasd_words --strict --warnings --as-far-as-it-goes --json --verbose -h --help; return; fi
+        if [[ $word == -* ]]; then _dasd_words --strict --warnings --contents --as-far-as-it-goes --json --verbose -h --help; return; fi
         _dasd_files
         ;;
     dump)

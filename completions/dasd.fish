@@ -12,8 +12,8 @@ complete -c dasd -n __fish_use_subcommand -a hash -d 'Prints the SHA-256 of the 
 complete -c dasd -n __fish_use_subcommand -a vtoc -d 'Prints the label of a volume, its data sets, and what is wrong with them'
 complete -c dasd -n __fish_use_subcommand -a extract -d 'Takes data sets and members of partitioned ones out of a volume'
 complete -c dasd -n __fish_use_subcommand -a load -d 'Puts a file onto a volume as a new data set or member, or the files of a folder'
-complete -c dasd -n __fish_use_subcommand -a rename -d 'Gives a data set of a volume another name'
-complete -c dasd -n __fish_use_subcommand -a delete -d 'Deletes a data set of a volume: its control blocks and tracks become free, and its data stay on them'
+complete -c dasd -n __fish_use_subcommand -a rename -d 'Gives a data set of a volume, or a member of a library, another name'
+complete -c dasd -n __fish_use_subcommand -a delete -d 'Deletes a data set of a volume: its control blocks and tracks become free, and its data stay on them; or a member of a library'
 complete -c dasd -n __fish_use_subcommand -a relabel -d 'Changes the serial number of a volume, or its owner'
 complete -c dasd -n __fish_use_subcommand -a recover -d 'Completes a save that was cut off, by the journal beside the file, or drops the journal'
 complete -c dasd -n __fish_use_subcommand -a explain -d 'Says in words what status, sense bytes and command words mean'
@@ -41,6 +41,7 @@ complete -c dasd -n '__fish_seen_subcommand_from list' -s h -l help -d 'Print he
 complete -c dasd -n '__fish_seen_subcommand_from list' -F
 complete -c dasd -n '__fish_seen_subcommand_from check' -l strict -d 'prints all that a reader of the drive would trip over, with severities'
 complete -c dasd -n '__fish_seen_subcommand_from check' -l warnings -d 'prints only errors and warnings; notes are counted'
+complete -c dasd -n '__fish_seen_subcommand_from check' -l contents -d 'prints what is wrong with label, table of contents, extents, free tracks, directories, members and data sets'
 complete -c dasd -n '__fish_seen_subcommand_from check' -l as-far-as-it-goes -d 'reads a volume even if its only or last file has the wrong length, and reports what is missing'
 complete -c dasd -n '__fish_seen_subcommand_from check' -l json -d 'prints one object of JSON a line'
 complete -c dasd -n '__fish_seen_subcommand_from check' -l verbose -d 'gives more detail of a fault, even if standard error is not a terminal'

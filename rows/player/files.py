@@ -296,8 +296,9 @@ class FileRow(DasdRow):
         return {it.name: (it.lstat().st_ino, it.lstat().st_mtime_ns) for it in self.folder.iterdir()}
 
     def command(self, words: list[str]) -> None:
-        """Runs a command to its end."""
+        """Runs a command to its end. What a format says of a file that it replaced is looked at here, for all rows."""
         self.before = self.stamps()
+        over = self.formatted_over([bare(it) for it in words_of(" ".join(words))])
         running = self.how.start([self.program, *(bare(it) for it in words_of(" ".join(words)))], self.folder)
         used = processor_time()
         try:
@@ -305,10 +306,20 @@ class FileRow(DasdRow):
         except subprocess.TimeoutExpired as why:
             running.kill()
             raise Wrong(" ".join(words), "an end within %d seconds" % self.how.seconds, "none") from why
-        same("%s: seconds of the processor" % words[0], True, processor_time() - used <= self.how.most)
+        same("%s: seconds of the processor" % " ".join(words[:1]), True, processor_time() - used <= self.how.most)
         self.after = self.stamps()
         self.replaced = sorted(it for it in self.before if it in self.after and self.before[it][0] != self.after[it][0])
         self.next_command()
+        if over and self.status == 0:
+            same(" ".join(words), 1, self.errors.count(over))
+            self.errors.remove(over)
+
+    def formatted_over(self, words: list[str]) -> str:
+        """The line that a format of these words tells of the file that is there; none where it replaces none."""
+        if words[:1] != ["format"]:
+            return ""
+        paths = [it for it in words[1:] if not it.startswith("-") and self.path(it).is_file()]
+        return "  %s: a file of %d bytes was replaced" % (paths[0], self.path(paths[0]).stat().st_size) if paths else ""
 
     def ends(self, running: subprocess.Popen[bytes], out: bytes | None, told: bytes | None) -> None:
         """Takes what a command printed and told, and its status."""

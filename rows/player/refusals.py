@@ -53,7 +53,10 @@ class Refused:
             log = Path(room, "log")
             given = dict(os.environ, REFUSE_AT=str(number), REFUSE_LOG=str(log), LD_PRELOAD=library("refusing"))
             words = [self.program, *self.words]
-            ran = subprocess.run(words, input=self.deck, capture_output=True, cwd=self.folder, env=given, timeout=SECONDS, check=False)
+            with tempfile.TemporaryFile() as deck:
+                deck.write(self.deck)
+                deck.seek(0)
+                ran = subprocess.run(words, stdin=deck, capture_output=True, cwd=self.folder, env=given, timeout=SECONDS, check=False)
             takings = int(log.read_text(encoding="ascii").splitlines()[-1].split()[0])
         files = self.files()
         trace = files.pop(traces, b"")

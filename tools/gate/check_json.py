@@ -138,6 +138,7 @@ def play(dasd: Path, folder: Path, lines: Lines) -> None:
         for words in (
             ["list", "--json", *files],
             ["check", "--strict", "--json", *files],
+            ["check", "--contents", "--json", *files],
             ["dump", "--json", *[f"./{it}" if "/" not in it else it for it in files], "0", "0-9"],
             ["hash", "--members", "--json", *files],
             ["vtoc", "--json", *files],

@@ -31,6 +31,8 @@ RIGHT: list[tuple[str, dict[str, Any]]] = [
     ("hash", {"path": "a", "name": "PAY", "hash": "0123456789abcdef" * 4, "whole": True}),
     ("hash", {"path": "a", "name": "PAY", "member": "NET", "hash": "0123456789abcdef" * 4, "whole": False}),
     ("hash", {"path": "a", "name": "volume table of contents", "text": "has findings, which dasd vtoc prints"}),
+    ("check", {"path": "a", "name": "PAY(NET)", "text": "track 9 of the data set: it is after the extents"}),
+    ("check", {"path": "a", "findings": 1}),
 ]
 # A line, and what of it is another: None takes a member away.
 PLANTED: list[tuple[int, dict[str, Any]]] = [
@@ -78,6 +80,8 @@ PLANTED: list[tuple[int, dict[str, Any]]] = [
     (21, {"name": None}),
     (22, {"name": "PAY"}),
     (18, {"serial": "ABC123"}),
+    (23, {"name": ""}),
+    (24, {"findings": -1}),
 ]
 
 

@@ -8,8 +8,8 @@ They are in tools/edits/CRATE, in the form of those in crates/CRATE/must-fail, w
 a version is tagged. With names, those of these crates: by whoever changes one of them. What the crates use is proved first, as far as `rt lib`
 has not left it in this checkout; a crate with edits is checked from nothing once more, so all of them take about an hour and a half of processor time.
 
-With --by-commit, as the gate does after `rt ci`, whose libraries are in this checkout, the commit chooses a tenth of them, a few of each crate, and their
-order. After half of so many seconds no further crate is begun, after all of them the last one is ended, and what was left is named.
+With --by-commit, in a checkout with the libraries of `rt ci`, the commit chooses a tenth of them, a few of each crate, and their order. After half of so
+many seconds no further crate is begun, after all of them the last one is ended, and what was left is named.
 
 All is done in a copy, and the repository stays as it is. Status 1 where an edit was let through or can't be applied. With --texts nothing is tried: it is
 only looked whether each edit, the gate's too, still fits its file, in which each of its old texts is once.

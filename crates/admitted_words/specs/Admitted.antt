@@ -121,6 +121,7 @@ admits line (request.List paths) = asks line (codes "list") (map (λ path. path.
 admits line (request.ListPart volume part) = prints line (codes "list") volume []
 admits line (request.Check paths) = asks line (codes "check") (map (λ path. path.now) paths.items) []
 admits line (request.CheckStrictly asked) = prints line (codes "check") asked.volume []
+admits line (request.CheckContents volume) = prints line (codes "check") volume []
 admits line (request.Dump volume part) = dumps line volume
 admits line (request.Compare volumes) = compares line volumes
 admits line (request.Hash asked) = prints line (codes "hash") asked.volume []
@@ -139,6 +140,12 @@ admits line (request.ExtractAll asked) =
     && takes line false false (Some asked.folder.now) && goes_to line None asked.as_far && is_form line asked.form
 admits line (request.Rename asked) =
     changes line (codes "rename") (map (λ path. path.now) asked.paths.items) asked.replaces (asked.old.now ∷ asked.new.now ∷ [])
+admits line (request.RenameMember asked) =
+    changes line (codes "rename") (map (λ path. path.now) asked.paths.items) asked.replaces
+    (word_of asked.library.now (Some asked.old.now) ∷ word_of asked.library.now (Some asked.new.now) ∷ [])
+admits line (request.DeleteMember asked) =
+    changes line (codes "delete") (map (λ path. path.now) asked.paths.items) asked.replaces
+    (word_of asked.library.now (Some asked.member.now) ∷ [])
 admits line (request.Delete asked) = changes line (codes "delete") (map (λ path. path.now) asked.paths.items) asked.replaces (asked.name.now ∷ [])
 admits line (request.Relabel asked) =
     changes line (codes "relabel") (map (λ path. path.now) asked.paths.items) asked.replaces []

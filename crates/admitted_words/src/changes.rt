@@ -1,17 +1,18 @@
 //! Words that ask for a change of a volume.
 
-ghost use Rattle.std.specs.Prelude.{◌≡◌, map};
+ghost use Rattle.std.specs.Prelude.{◌≡◌, map, Some, IfOk, string_bytes};
 ghost use Rattle.std.specs.Option.{option_copied};
 ghost use Rattle.command_words.specs.Lines.{seen};
-ghost use Rattle.admitted_words.specs.Admitted.{loads, admits};
+ghost use Rattle.admitted_words.specs.Admitted.{loads, admits, word_of};
 ghost use Rattle.dasd_words.specs.declared.requests.Request.TheVariants as request;
 
-use crate::extracts::is_form;
+use crate::extracts::{is_form, word_of};
 use command_words::CommandLine;
 use dasd_words::{
-    DeletedSet, FileForm, LoadedFile, LoadedFolder, LoadedMember, RecoveredFiles, RelabelledVolume,
-    RenamedSet,
+    DeletedMember, DeletedSet, FileForm, LoadedFile, LoadedFolder, LoadedMember, RecoveredFiles,
+    RelabelledVolume, RenamedMember, RenamedSet, SetName,
 };
+use std::alloc::{AllocError, Global};
 
 /// Whether words ask for this data set to be renamed.
 pub(crate) fn renames_set(line: &CommandLine, asked: &RenamedSet) -> bool
@@ -27,6 +28,51 @@ pub(crate) fn deletes_set(line: &CommandLine, asked: &DeletedSet) -> bool
 {
     line.asks("delete", asked.paths.as_slice(), &[asked.name])
         && line.is_set("--replace", asked.replaces)
+}
+
+// The word for a member of a library.
+fn member_word(alloc: Global, library: &str, member: &str) -> Result<String, AllocError>
+    ensures { IfOk result (λ word. string_bytes word ≡ word_of library.now (Some member.now)) }
+{
+    let name = SetName {
+        data_set: library,
+        member: Some(member),
+    };
+    word_of(alloc, &name)
+}
+
+/// Whether words ask for this member to be renamed.
+pub(crate) fn renames_member(
+    alloc: Global,
+    line: &CommandLine,
+    asked: &RenamedMember,
+) -> Result<bool, AllocError>
+    ensures { IfOk result (λ is. is ≡ admits (seen line.now) (request.RenameMember asked.now)) }
+{
+    let old = member_word(alloc, asked.library, asked.old)?;
+    let new = member_word(alloc, asked.library, asked.new)?;
+    Ok(
+        line.asks(
+            "rename",
+            asked.paths.as_slice(),
+            &[old.as_str(), new.as_str()],
+        ) && line.is_set("--replace", asked.replaces),
+    )
+}
+
+/// Whether words ask for this member to be deleted.
+pub(crate) fn deletes_member(
+    alloc: Global,
+    line: &CommandLine,
+    asked: &DeletedMember,
+) -> Result<bool, AllocError>
+    ensures { IfOk result (λ is. is ≡ admits (seen line.now) (request.DeleteMember asked.now)) }
+{
+    let name = member_word(alloc, asked.library, asked.member)?;
+    Ok(
+        line.asks("delete", asked.paths.as_slice(), &[name.as_str()])
+            && line.is_set("--replace", asked.replaces),
+    )
 }
 
 /// Whether words ask for another label of this volume.

@@ -24,8 +24,8 @@ pub(crate) fn is_form(line: &CommandLine, form: FileForm) -> bool
     }
 }
 
-// The word for a data set, or for a member of one, which has parentheses around it.
-fn word_of(alloc: Global, name: &SetName) -> Result<String, AllocError>
+/// The word for a data set, or for a member of one, which has parentheses around it.
+pub(crate) fn word_of(alloc: Global, name: &SetName) -> Result<String, AllocError>
     ensures { IfOk result (λ word. string_bytes word ≡ word_of name.now.data_set.now (option_copied name.now.member)) }
 {
     let mut word = String::from_str(alloc, name.data_set)?;

@@ -6,7 +6,8 @@ ghost use Rattle.command_words.specs.Lines.{seen};
 ghost use Rattle.admitted_words.specs.Admitted.{formats, admits, asks_text};
 
 use crate::changes::{
-    changes_label, deletes_set, loads_file, loads_folder, loads_member, recovers_files, renames_set,
+    changes_label, deletes_member, deletes_set, loads_file, loads_folder, loads_member,
+    recovers_files, renames_member, renames_set,
 };
 use crate::extracts::{extracts_all, extracts_set, extracts_tracks, lists_members};
 use crate::prints::{compares, dumps, prints, prints_plainly};
@@ -34,6 +35,7 @@ pub(crate) fn admits(
         Request::ListPart(volume, _) => Ok(prints(line, "list", volume, &[])),
         Request::Check(paths) => Ok(prints_plainly(line, "check", paths.as_slice())),
         Request::CheckStrictly(asked) => Ok(prints(line, "check", &asked.volume, &[])),
+        Request::CheckContents(volume) => Ok(prints(line, "check", volume, &[])),
         Request::Dump(volume, _) => Ok(dumps(line, volume)),
         Request::Compare(volumes) => compares(alloc, line, volumes),
         Request::Hash(asked) => Ok(prints(line, "hash", &asked.volume, &[])),
@@ -44,7 +46,9 @@ pub(crate) fn admits(
         Request::ExtractTracks(asked) => Ok(extracts_tracks(line, asked)),
         Request::ExtractAll(asked) => Ok(extracts_all(line, asked)),
         Request::Rename(asked) => Ok(renames_set(line, asked)),
+        Request::RenameMember(asked) => renames_member(alloc, line, asked),
         Request::Delete(asked) => Ok(deletes_set(line, asked)),
+        Request::DeleteMember(asked) => deletes_member(alloc, line, asked),
         Request::Relabel(asked) => Ok(changes_label(line, asked)),
         Request::Recover(asked) => Ok(recovers_files(line, asked)),
         Request::Load(asked) => Ok(loads_file(line, asked)),

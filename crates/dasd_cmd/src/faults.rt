@@ -42,7 +42,8 @@ pub(crate) fn write_fault<W: Write>(
     writer: &mut W,
     fault: &ProgramFault,
 ) {
-    if is_of_words(fault) {
+    // no command was begun
+    if fault.status() == 2 {
         return;
     }
     let Ok(text) = format!(in alloc; "{fault}") else {
@@ -90,14 +91,6 @@ fn reach_object(alloc: Global, words: &[&str], remarks: &Remarks) -> Option<Stri
         return None;
     }
     format!(in alloc; "{{\"path\":{path},\"remarks\":[{listed}]}}").ok()
-}
-
-// Whether no command was begun.
-fn is_of_words(fault: &ProgramFault) -> bool {
-    matches!(
-        fault,
-        ProgramFault::Words(_) | ProgramFault::Help(_) | ProgramFault::BadVolume
-    )
 }
 
 // The object of a fault with this text.

@@ -2,6 +2,7 @@
 #![tactic(auto)]
 
 mod faults;
+mod names;
 mod terminal;
 
 ghost use Rattle.std.specs.Prelude.{◌≡◌, OnOk};
@@ -9,18 +10,21 @@ ghost use Rattle.std.specs.Process.{exit_status};
 ghost use Rattle.dasd_cmd.specs.Ends.{ended_status};
 
 use crate::faults::{note_rule, write_fault, write_reach};
+use crate::names::note_name;
 use crate::terminal::{HostInput, HostOutput, TerminalLine};
 use counted_io::Counted;
 use dasd_jobs::{ImageFiles, JobFault};
 use dasd_run::{Ending, HostParts, ProgramFault, obey_with};
 use dasd_words::is_comparison;
+use file_places::Notes;
 use host_files::{HostFiles, Remarks, Shown};
 use std::alloc::{AllocError, Global};
 use std::env::{self, Env, FillError};
-use std::fmt;
 use std::fmt::Write;
 use std::io::{BufWriter, ErrorKind};
+use std::os::unix::fs::FileTypeExt;
 use std::process::ExitCode;
+use std::{fmt, fs};
 
 /// A No-Operation, which is accepted and over at once, so that no interruption is left.
 const STORED_DECK: &[u8] = b"STORE 48 00000400
@@ -42,6 +46,10 @@ const NOT_COMPARED: u8 = 2;
 
 /// The option by which what is lacking of a volume is always told.
 const AS_FAR: &str = "--as-far-as-it-goes";
+
+/// What is said without words where something is in standard input.
+const UNREAD_INPUT: &str =
+    "without words dasd runs a stored deck, and reads no input: dasd run reads a deck";
 
 /// What `dasd` does without words.
 const STORED_RUN: [&str; 3] = ["dasd", "run", "90=new:2311:1"];
@@ -70,8 +78,7 @@ fn main(rt: HostRuntime) -> ExitCode {
             writer,
             progress,
         };
-        let (ended, parts) = obey_with(parts, &STORED_RUN);
-        return end(&rt, &parts.files, &parts.writer, false, ended);
+        return run_stored(&rt, &remarks, parts);
     }
     if as_far(words) || words.iter().any(|word| *word == "--verbose") {
         files.ask_remarks();
@@ -85,9 +92,33 @@ fn main(rt: HostRuntime) -> ExitCode {
     };
     let (ended, mut parts) = obey_with(parts, words);
     let ended = settled(&parts.files, ended);
+    if let Err(fault) = &ended {
+        note_name(alloc, words, &mut parts.files, &remarks, fault);
+    }
     let ended = say_more(alloc, &remarks, &mut parts.writer, words, ended);
     let compares = is_comparison(words);
     end(&rt, &parts.files, &parts.writer, compares, ended)
+}
+
+// What `dasd` does without words, with what it says of an input that it does not read.
+fn run_stored(
+    rt: &HostRuntime,
+    remarks: &Remarks,
+    parts: HostParts<HostFiles, &[u8], BufWriter<HostOutput>, TerminalLine>,
+) -> ExitCode {
+    if has_input(rt) {
+        remarks.tell(&UNREAD_INPUT);
+    }
+    let (ended, parts) = obey_with(parts, &STORED_RUN);
+    end(rt, &parts.files, &parts.writer, false, ended)
+}
+
+// Whether somebody may have put a deck into standard input: it is a file with bytes, or a pipe, which can't be asked without a read.
+fn has_input(rt: &HostRuntime) -> bool {
+    match fs::metadata(rt, "/dev/stdin") {
+        Ok(known) => known.file_type().is_fifo() || known.is_file() && known.len() > 0,
+        Err(_) => false,
+    }
 }
 
 // The words as texts.

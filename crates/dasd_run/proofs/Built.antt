@@ -13,9 +13,9 @@ use Rattle.dasd_words.specs.declared.volumes.Volume.{Volume}
 use Rattle.dasd_jobs.specs.Sources.{SourceFile}
 use Rattle.dasd_jobs.specs.declared.faults.JobFault.{JobFault}
 use Rattle.dasd_jobs.specs.declared.faults.JobFault.TheVariants as job
-use Rattle.dasd_run.specs.declared.fault.ProgramFault.{ProgramFault}
-use Rattle.dasd_run.specs.declared.fault.ProgramFault.TheVariants as fault
-use Rattle.dasd_run.specs.Faults.{volume_fault}
+use Rattle.program_faults.specs.declared.fault.ProgramFault.{ProgramFault}
+use Rattle.program_faults.specs.declared.fault.ProgramFault.TheVariants as fault
+use Rattle.program_faults.specs.Faults.{volume_fault}
 use Rattle.dasd_run.specs.Built.{IsNewChannel, IsDriveOf, HasImage, OpensVolumes, AreOpened, AttachesOne}
 use Rattle.dasd_run.specs.Built.{HasNoImage, is_addressed, has_address, HasAddressOf, NotAttached, NotAllAttached}
 

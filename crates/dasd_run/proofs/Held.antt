@@ -16,9 +16,9 @@ use Rattle.dasd_contents.specs.Lines.{volume_lines, finding_line}
 use Rattle.dasd_contents.specs.Objects.{volume_objects, finding_object}
 use Rattle.dasd_jobs.specs.declared.faults.JobFault.TheVariants as job
 use Rattle.dasd_run.specs.declared.commands.Ending.{Ending}
-use Rattle.dasd_run.specs.declared.fault.ProgramFault.{ProgramFault}
-use Rattle.dasd_run.specs.declared.fault.ProgramFault.TheVariants as fault
-use Rattle.dasd_run.specs.Faults.{printing_fault}
+use Rattle.program_faults.specs.declared.fault.ProgramFault.{ProgramFault}
+use Rattle.program_faults.specs.declared.fault.ProgramFault.TheVariants as fault
+use Rattle.program_faults.specs.Faults.{printing_fault}
 use Rattle.dasd_run.specs.Held.{SaysWith, SaysAll, all_findings, said_text, contents_text, CountsFault, PrintsHeld}
 use Rattle.dasd_run.specs.Ended.{counted_ending}
 

@@ -9,7 +9,7 @@ use Rattle.dasd_words.specs.declared.volumes.Volume.{Volume}
 use Rattle.dasd_jobs.specs.Written.{Replaced}
 use Rattle.admitted_words.specs.Writing.{may_write}
 use Rattle.dasd_run.specs.declared.commands.Ending.{Ending}
-use Rattle.dasd_run.specs.declared.fault.ProgramFault.{ProgramFault}
+use Rattle.program_faults.specs.declared.fault.ProgramFault.{ProgramFault}
 use Rattle.dasd_run.specs.Answers.{Answers}
 use Rattle.dasd_run.specs.Outside.{Outside}
 use Rattle.dasd_run.specs.Runs.{Stops, RunsOrStops}
@@ -42,7 +42,9 @@ writes_none (request.Extract asked) result before now h a = cc
 writes_none (request.ExtractTracks asked) result before now h a = cc
 writes_none (request.ExtractAll asked) result before now h a = cc
 writes_none (request.Rename asked) result before now h a = cc
+writes_none (request.RenameMember asked) result before now h a = cc
 writes_none (request.Delete asked) result before now h a = cc
+writes_none (request.DeleteMember asked) result before now h a = cc
 writes_none (request.Relabel asked) result before now h a = cc
 writes_none (request.Recover asked) result before now h a = a.0.0
 writes_none (request.Load asked) result before now h a = cc
@@ -53,6 +55,7 @@ writes_none (request.List paths) result before now h a = a.1.0
 writes_none (request.ListPart asked part) result before now h a = a.2.0
 writes_none (request.Check paths) result before now h a = a.1.0
 writes_none (request.CheckStrictly asked) result before now h a = a.1.0
+writes_none (request.CheckContents asked) result before now h a = a.1.0
 writes_none (request.Dump asked part) result before now h a = a.1.0
 writes_none (request.Compare asked) result before now h a = a.1.0
 writes_none (request.Hash asked) result before now h a = a.1.0

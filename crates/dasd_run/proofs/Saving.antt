@@ -10,8 +10,8 @@ use Rattle.ckd_image.specs.Image.{ImageState}
 use Rattle.dasd_jobs.specs.Back.{IsWritten}
 use Rattle.dasd_jobs.specs.Written.{Replaced}
 use Rattle.dasd_words.specs.declared.volumes.Volume.{Volume}
-use Rattle.dasd_run.specs.declared.fault.ProgramFault.{ProgramFault}
-use Rattle.dasd_run.specs.Faults.{keeps_files}
+use Rattle.program_faults.specs.declared.fault.ProgramFault.{ProgramFault}
+use Rattle.program_faults.specs.Faults.{keeps_files}
 use Rattle.dasd_run.specs.Saves.{paths_of, AreSaved, SavesAll}
 
 -- what stands beside a volume: the address of its drive and the image that was given back, if there is one

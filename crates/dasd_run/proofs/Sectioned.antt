@@ -13,9 +13,9 @@ use Rattle.library_contents.specs.Report.{printed, some_wrong}
 use Rattle.volume_details.specs.Sections.{Views, sections, TellsWrong}
 use Rattle.dasd_jobs.specs.declared.faults.JobFault.TheVariants as job
 use Rattle.dasd_run.specs.declared.commands.Ending.{Ending}
-use Rattle.dasd_run.specs.declared.fault.ProgramFault.{ProgramFault}
-use Rattle.dasd_run.specs.declared.fault.ProgramFault.TheVariants as fault
-use Rattle.dasd_run.specs.Faults.{printing_fault}
+use Rattle.program_faults.specs.declared.fault.ProgramFault.{ProgramFault}
+use Rattle.program_faults.specs.declared.fault.ProgramFault.TheVariants as fault
+use Rattle.program_faults.specs.Faults.{printing_fault}
 use Rattle.dasd_run.specs.Held.{SaysAll, held_ending, CountsFault, PrintsHeld}
 use Rattle.dasd_run.specs.Details.{PrintsDetails}
 use Rattle.dasd_run.specs.Ended.{worse}

@@ -10,8 +10,8 @@ use Rattle.ckd_track.specs.declared.model.DriveModel.{DriveModel}
 use Rattle.dasd_jobs.specs.Written.{Replaced, Formats}
 use Rattle.dasd_jobs.specs.declared.faults.JobFault.{JobFault}
 use Rattle.dasd_run.specs.declared.commands.Ending.{Ending}
-use Rattle.dasd_run.specs.declared.fault.ProgramFault.{ProgramFault}
-use Rattle.dasd_run.specs.Faults.{keeps_of_job, keeps_files}
+use Rattle.program_faults.specs.declared.fault.ProgramFault.{ProgramFault}
+use Rattle.program_faults.specs.Faults.{keeps_of_job, keeps_files}
 
 -- what is seen of a value that stays does so too
 pub stays_seen : {A B : Type 0} (seen : A → B) (r : Result (Unit {0}) RunFault) (old new : A) → StaysUnlessRun r old new

@@ -5,8 +5,8 @@ use Rattle.dasd_volumes.specs.declared.fault.VolumeFault.{VolumeFault}
 use Rattle.dasd_volumes.specs.declared.fault.VolumeFault.TheVariants.{OutOfMemory, Store, Write}
 use Rattle.dasd_volumes.specs.Printing.{CountsWrites}
 use Rattle.dasd_jobs.specs.declared.faults.JobFault.TheVariants as job
-use Rattle.dasd_run.specs.declared.fault.ProgramFault.TheVariants as fault
-use Rattle.dasd_run.specs.Faults.{printing_fault}
+use Rattle.program_faults.specs.declared.fault.ProgramFault.TheVariants as fault
+use Rattle.program_faults.specs.Faults.{printing_fault}
 
 -- a fault of one call that another call tells
 pub writes_told : (A B : Type 0) (f : VolumeFault) (a b : Stream) → CountsWrites {A = A} (Err f) a b → CountsWrites {A = B} (Err f) a b

@@ -21,9 +21,10 @@ use Rattle.dasd_jobs.specs.Written.{Formats}
 use Rattle.dasd_jobs.specs.declared.faults.JobFault.{JobFault}
 use Rattle.dasd_run.specs.Labels.{FormatsWithLabel}
 use Rattle.dasd_run.specs.declared.commands.Ending.{Ending}
-use Rattle.dasd_run.specs.declared.fault.ProgramFault.{ProgramFault}
-use Rattle.dasd_run.specs.declared.fault.ProgramFault.TheVariants as fault
+use Rattle.program_faults.specs.declared.fault.ProgramFault.{ProgramFault}
+use Rattle.program_faults.specs.declared.fault.ProgramFault.TheVariants as fault
 use Rattle.dasd_run.specs.Folders.{FolderAsked, MemberAsked}
+use Rattle.dasd_run.specs.Members.{MemberDeleted, MemberRenamed}
 use Rattle.dasd_run.specs.Changes.{RenamesAsked, DeletesAsked, RelabelsAsked, LoadsAsked}
 use Rattle.dasd_run.specs.Compared.{ComparesFiles}
 use Rattle.dasd_run.specs.Details.{ListsDetails, ListsMembers}
@@ -37,6 +38,7 @@ use Rattle.dasd_run.specs.Recovered.{Recovers}
 use Rattle.dasd_run.specs.Runs.{RunsOrStops}
 use Rattle.dasd_run.specs.Strict.{ChecksStrictly}
 use Rattle.dasd_run.specs.Unloads.{ExtractsSet, ExtractsTracks, ExtractsVolume}
+use Rattle.dasd_run.specs.Whole.{ChecksContents}
 use Rattle.dasd_run.specs.Words.{AssemblesText, PrintsWords, WithText}
 
 -- the new image that is asked for is put at its path, and its line printed and flushed
@@ -111,11 +113,14 @@ Answers (request.ListPart asked part) result before now =
     ListsPart result asked part before now × TakesMemoryFirst result before.printed now.printed × Looks before now
 Answers (request.Check paths) result before now = ChecksVolume result (map (λ path. path.now) paths.items) before now × Looks before now
 Answers (request.CheckStrictly asked) result before now = ChecksStrictly result asked before now × Looks before now
+Answers (request.CheckContents asked) result before now = ChecksContents result asked before now × Looks before now
 Answers (request.Dump asked part) result before now = DumpsPart result asked part before now × Looks before now
 Answers (request.Compare asked) result before now = ComparesFiles result asked before now × Looks before now
 Answers (request.Hash asked) result before now = HashesVolume result asked before now × Looks before now
 Answers (request.Rename asked) result before now = RenamesAsked result asked before now × (now.read ≡ before.read)
+Answers (request.RenameMember asked) result before now = MemberRenamed result asked before now × (now.read ≡ before.read)
 Answers (request.Delete asked) result before now = DeletesAsked result asked before now × (now.read ≡ before.read)
+Answers (request.DeleteMember asked) result before now = MemberDeleted result asked before now × (now.read ≡ before.read)
 Answers (request.Relabel asked) result before now = RelabelsAsked result asked before now × (now.read ≡ before.read)
 Answers (request.Recover asked) result before now = Recovers result before now
 Answers (request.Load asked) result before now = LoadsAsked result asked before now × (now.read ≡ before.read)

@@ -14,8 +14,8 @@ use Rattle.dasd_jobs.specs.Sources.{SourceFile, ReadsWhole}
 use Rattle.dasd_jobs.specs.Unopened.{NotRead, NotFormatted}
 use Rattle.dasd_jobs.specs.declared.faults.JobFault.{JobFault}
 use Rattle.dasd_jobs.specs.declared.faults.JobFault.TheVariants as job
-use Rattle.dasd_run.specs.declared.fault.ProgramFault.{ProgramFault}
-use Rattle.dasd_run.specs.declared.fault.ProgramFault.TheVariants as fault
+use Rattle.program_faults.specs.declared.fault.ProgramFault.{ProgramFault}
+use Rattle.program_faults.specs.declared.fault.ProgramFault.TheVariants as fault
 use Rattle.dasd_run.specs.Saves.{paths_of}
 
 -- a channel with this number, over cleared main storage of this size, at which nothing has happened

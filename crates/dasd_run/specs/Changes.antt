@@ -5,9 +5,9 @@ use Rattle.changed_volumes.specs.declared.fault.ChangeFault.{ChangeFault}
 use Rattle.changed_volumes.specs.Changes.{changing}
 use Rattle.changed_volumes.specs.Files.{RenamesSet, DeletesSet, TellsChange, relabelled_line}
 use Rattle.dasd_run.specs.declared.commands.Ending.{Ending}
-use Rattle.dasd_run.specs.declared.fault.ProgramFault.{ProgramFault}
+use Rattle.program_faults.specs.declared.fault.ProgramFault.{ProgramFault}
 use Rattle.dasd_run.specs.Ended.{done_or}
-use Rattle.dasd_run.specs.Faults.{change_fault, load_fault}
+use Rattle.program_faults.specs.Faults.{change_fault, load_fault}
 use Rattle.dasd_run.specs.Outside.{Outside, around}
 use Rattle.dasd_words.specs.declared.requests.DeletedSet.{DeletedSet}
 use Rattle.dasd_words.specs.declared.requests.LoadedFile.{LoadedFile}

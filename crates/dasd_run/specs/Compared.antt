@@ -18,9 +18,9 @@ use Rattle.ckd_track.specs.Model.{model_number_of}
 use Rattle.dasd_jobs.specs.Sources.{SourceFile, OfVolume}
 use Rattle.dasd_run.specs.declared.commands.Ending.{Ending}
 use Rattle.dasd_run.specs.declared.commands.Ending.TheVariants.{Findings}
-use Rattle.dasd_run.specs.declared.fault.ProgramFault.{ProgramFault}
+use Rattle.program_faults.specs.declared.fault.ProgramFault.{ProgramFault}
 use Rattle.dasd_run.specs.Ended.{ended, counted_ending}
-use Rattle.dasd_run.specs.Faults.{printing_fault}
+use Rattle.program_faults.specs.Faults.{printing_fault}
 use Rattle.dasd_run.specs.Outside.{Outside}
 use Rattle.dasd_run.specs.Paths.{quoted_paths}
 use Rattle.dasd_run.specs.Printed.{style_of, IsUnopened}

@@ -7,8 +7,8 @@ use Rattle.s360_deck.specs.declared.runs.RunFault.{RunFault}
 use Rattle.s360_deck.specs.declared.runs.RunFault.TheVariants as run
 use Rattle.s360_deck.specs.CountedRuns.{ReadsWhole, PassesDeck, FailsToRead, FindsNoRoom}
 use Rattle.dasd_words.specs.declared.requests.DeckRun.{DeckRun}
-use Rattle.dasd_run.specs.declared.fault.ProgramFault.{ProgramFault}
-use Rattle.dasd_run.specs.declared.fault.ProgramFault.TheVariants as fault
+use Rattle.program_faults.specs.declared.fault.ProgramFault.{ProgramFault}
+use Rattle.program_faults.specs.declared.fault.ProgramFault.TheVariants as fault
 
 -- the path of the file that has the deck, where the words name one
 abbrev pub deck_path : DeckRun → Option (List ℕ)

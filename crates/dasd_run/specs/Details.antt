@@ -13,9 +13,9 @@ use Rattle.dasd_words.specs.declared.requests.ListedLibrary.{ListedLibrary}
 use Rattle.dasd_jobs.specs.Sources.{OfVolume}
 use Rattle.dasd_run.specs.declared.commands.Ending.{Ending}
 use Rattle.dasd_run.specs.declared.commands.Ending.TheVariants.{Done}
-use Rattle.dasd_run.specs.declared.fault.ProgramFault.{ProgramFault}
+use Rattle.program_faults.specs.declared.fault.ProgramFault.{ProgramFault}
 use Rattle.dasd_run.specs.Ended.{ended, worse}
-use Rattle.dasd_run.specs.Faults.{library_fault}
+use Rattle.program_faults.specs.Faults.{library_fault}
 use Rattle.dasd_run.specs.Outside.{Outside}
 use Rattle.dasd_run.specs.Held.{held_text, held_ending, CountsFault, json_path}
 use Rattle.dasd_run.specs.Printed.{paths_of, IsUnopened}

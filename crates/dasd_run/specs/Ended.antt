@@ -2,8 +2,8 @@
 use Rattle.std.specs.Prelude.{◌≡◌, ℕ, nat_lt, Bool, true, if◌then◌else◌, Result, Ok, Err, IfErr}
 use Rattle.dasd_run.specs.declared.commands.Ending.{Ending}
 use Rattle.dasd_run.specs.declared.commands.Ending.TheVariants.{Done, Findings}
-use Rattle.dasd_run.specs.declared.fault.ProgramFault.{ProgramFault}
-use Rattle.dasd_run.specs.Faults.{keeps_files}
+use Rattle.program_faults.specs.declared.fault.ProgramFault.{ProgramFault}
+use Rattle.program_faults.specs.Faults.{keeps_files}
 use Rattle.dasd_run.specs.Outside.{Outside}
 
 -- with findings, where something is found, and else as it would

@@ -5,10 +5,10 @@ use Rattle.loaded_folders.specs.MemberLoads.{LoadsMember}
 use Rattle.loaded_folders.specs.Faults.{FolderFault, NewMemberFault}
 use Rattle.loaded_folders.specs.declared.member_saves.NewMemberFile.{NewMemberFile}
 use Rattle.dasd_run.specs.declared.commands.Ending.{Ending}
-use Rattle.dasd_run.specs.declared.fault.ProgramFault.{ProgramFault}
+use Rattle.program_faults.specs.declared.fault.ProgramFault.{ProgramFault}
 use Rattle.dasd_run.specs.Changes.{source_of}
 use Rattle.dasd_run.specs.Ended.{done_or}
-use Rattle.dasd_run.specs.Faults.{folder_fault, add_fault}
+use Rattle.program_faults.specs.Faults.{folder_fault, add_fault}
 use Rattle.dasd_run.specs.Outside.{Outside, around}
 use Rattle.dasd_words.specs.declared.requests.LoadedFolder.{LoadedFolder}
 use Rattle.dasd_words.specs.declared.requests.LoadedMember.{LoadedMember}

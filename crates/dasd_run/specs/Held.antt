@@ -13,8 +13,8 @@ use Rattle.dasd_contents.specs.Objects.{volume_objects, finding_object, contents
 use Rattle.dasd_words.specs.declared.requests.PrintedVolume.{PrintedVolume}
 use Rattle.dasd_jobs.specs.declared.faults.JobFault.TheVariants as job
 use Rattle.dasd_run.specs.declared.commands.Ending.{Ending}
-use Rattle.dasd_run.specs.declared.fault.ProgramFault.{ProgramFault}
-use Rattle.dasd_run.specs.declared.fault.ProgramFault.TheVariants as fault
+use Rattle.program_faults.specs.declared.fault.ProgramFault.{ProgramFault}
+use Rattle.program_faults.specs.declared.fault.ProgramFault.TheVariants as fault
 use Rattle.dasd_run.specs.Ended.{counted_ending}
 use Rattle.dasd_run.specs.Outside.{Outside}
 use Rattle.dasd_run.specs.Paths.{quoted_paths}

@@ -7,9 +7,9 @@ use Rattle.new_labels.specs.declared.labels.NewLabel.{NewLabel}
 use Rattle.changed_volumes.specs.declared.formats.FormatFault.{FormatFault}
 use Rattle.changed_volumes.specs.Formats.{FormatsLabelled}
 use Rattle.dasd_run.specs.declared.commands.Ending.{Ending}
-use Rattle.dasd_run.specs.declared.fault.ProgramFault.{ProgramFault}
+use Rattle.program_faults.specs.declared.fault.ProgramFault.{ProgramFault}
 use Rattle.dasd_run.specs.Ended.{done_or}
-use Rattle.dasd_run.specs.Faults.{format_fault}
+use Rattle.program_faults.specs.Faults.{format_fault}
 use Rattle.dasd_run.specs.Outside.{Outside}
 
 -- the new image with the label that is asked for is put at its path, and its line printed and flushed

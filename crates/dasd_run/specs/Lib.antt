@@ -1,4 +1,3 @@
-pub mod Faults
 pub mod Built
 pub mod Changes
 pub mod Decks
@@ -14,10 +13,12 @@ pub mod Details
 pub mod Unloads
 pub mod Compared
 pub mod Strict
+pub mod Whole
 pub mod Loads
 pub mod Words
 pub mod Labels
 pub mod Recovered
 pub mod Answers
 pub mod Folders
+pub mod Members
 pub mod Obeyed

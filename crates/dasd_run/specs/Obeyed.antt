@@ -6,8 +6,8 @@ use Rattle.dasd_words.specs.declared.requests.Request.{Request}
 use Rattle.dasd_jobs.specs.Sources.{SourceFile}
 use Rattle.dasd_jobs.specs.Written.{Replaced}
 use Rattle.dasd_run.specs.declared.commands.Ending.{Ending}
-use Rattle.dasd_run.specs.declared.fault.ProgramFault.{ProgramFault}
-use Rattle.dasd_run.specs.declared.fault.ProgramFault.TheVariants as fault
+use Rattle.program_faults.specs.declared.fault.ProgramFault.{ProgramFault}
+use Rattle.program_faults.specs.declared.fault.ProgramFault.TheVariants as fault
 use Rattle.dasd_run.specs.Answers.{Answers}
 use Rattle.dasd_run.specs.Outside.{Outside, Looks}
 use Rattle.dasd_run.specs.Runs.{Tells}

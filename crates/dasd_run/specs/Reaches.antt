@@ -4,7 +4,7 @@ use Rattle.dasd_volumes.specs.Reading.{KnownVolume}
 use Rattle.dasd_jobs.specs.declared.lengths.Reach.{Reach}
 use Rattle.dasd_jobs.specs.Sources.{SourceFile, OfReach}
 use Rattle.dasd_run.specs.declared.commands.Ending.{Ending}
-use Rattle.dasd_run.specs.declared.fault.ProgramFault.{ProgramFault}
+use Rattle.program_faults.specs.declared.fault.ProgramFault.{ProgramFault}
 use Rattle.dasd_run.specs.Ended.{worse}
 
 -- it has findings where tracks lack

@@ -3,8 +3,8 @@ use Rattle.std.specs.Prelude.{◌≡◌, Result, IfErr}
 use Rattle.dasd_jobs.specs.Causes.{IsOfWriting}
 use Rattle.dasd_jobs.specs.declared.faults.JobFault.{JobFault}
 use Rattle.dasd_run.specs.declared.commands.Ending.{Ending}
-use Rattle.dasd_run.specs.declared.fault.ProgramFault.{ProgramFault}
-use Rattle.dasd_run.specs.declared.fault.ProgramFault.TheVariants as fault
+use Rattle.program_faults.specs.declared.fault.ProgramFault.{ProgramFault}
+use Rattle.program_faults.specs.declared.fault.ProgramFault.TheVariants as fault
 use Rattle.dasd_run.specs.Outside.{Outside, Looks}
 
 -- a fault is one of files that are written

@@ -11,8 +11,8 @@ use Rattle.dasd_jobs.specs.Sources.{SourceFile}
 use Rattle.dasd_jobs.specs.declared.faults.JobFault.TheVariants.{Write}
 use Rattle.dasd_run.specs.declared.commands.Ending.{Ending}
 use Rattle.dasd_run.specs.declared.commands.Ending.TheVariants.{Done}
-use Rattle.dasd_run.specs.declared.fault.ProgramFault.{ProgramFault}
-use Rattle.dasd_run.specs.declared.fault.ProgramFault.TheVariants as fault
+use Rattle.program_faults.specs.declared.fault.ProgramFault.{ProgramFault}
+use Rattle.program_faults.specs.declared.fault.ProgramFault.TheVariants as fault
 use Rattle.dasd_run.specs.Built.{IsNewChannel, OpensVolumes, AreOpened, NotBuilt}
 use Rattle.dasd_run.specs.Decks.{deck_path, ReadsDeck, IsUnread, NoTrace}
 use Rattle.dasd_run.specs.Outside.{Outside}

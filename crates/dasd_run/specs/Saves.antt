@@ -16,8 +16,8 @@ use Rattle.dasd_jobs.specs.Written.{Replaced}
 use Rattle.dasd_jobs.specs.declared.faults.JobFault.{JobFault}
 use Rattle.dasd_jobs.specs.declared.files.SavePlan.{SavePlan}
 use Rattle.dasd_jobs.specs.declared.files.SavePlan.TheVariants.{Nothing, Replaced as by_new, InPlace}
-use Rattle.dasd_run.specs.declared.fault.ProgramFault.{ProgramFault}
-use Rattle.dasd_run.specs.declared.fault.ProgramFault.TheVariants as fault
+use Rattle.program_faults.specs.declared.fault.ProgramFault.{ProgramFault}
+use Rattle.program_faults.specs.declared.fault.ProgramFault.TheVariants as fault
 
 -- the paths of the files that a volume was read from: none, of a new one in memory
 abbrev pub paths_of : VolumeSource → List (List ℕ)

@@ -15,10 +15,10 @@ use Rattle.dasd_words.specs.declared.requests.StrictCheck.{StrictCheck}
 use Rattle.dasd_jobs.specs.Sources.{Content, SourceFile, IsHeader, OpensPaths, Mounts, OfVolume, volume_in}
 use Rattle.dasd_jobs.specs.declared.faults.JobFault.TheVariants.{Read, OutOfMemory}
 use Rattle.dasd_run.specs.declared.commands.Ending.{Ending}
-use Rattle.dasd_run.specs.declared.fault.ProgramFault.{ProgramFault}
-use Rattle.dasd_run.specs.declared.fault.ProgramFault.TheVariants as fault
+use Rattle.program_faults.specs.declared.fault.ProgramFault.{ProgramFault}
+use Rattle.program_faults.specs.declared.fault.ProgramFault.TheVariants as fault
 use Rattle.dasd_run.specs.Ended.{ended, counted_ending}
-use Rattle.dasd_run.specs.Faults.{printing_fault}
+use Rattle.program_faults.specs.Faults.{printing_fault}
 use Rattle.dasd_run.specs.Outside.{Outside}
 use Rattle.dasd_run.specs.Paths.{quoted_paths}
 use Rattle.dasd_run.specs.Printed.{style_of, paths_of, IsUnopened, PrintsWhole}

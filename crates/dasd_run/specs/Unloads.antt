@@ -13,8 +13,8 @@ use Rattle.dasd_unload.specs.Causes.{UnloadsOrTells}
 use Rattle.dasd_unload.specs.Tracks.{AskedTracks, asked_tracks, TracksOrTell}
 use Rattle.dasd_unload.specs.Volumes.{Plan, plan_of, CountsReport, UnloadsVolume}
 use Rattle.dasd_run.specs.declared.commands.Ending.{Ending}
-use Rattle.dasd_run.specs.declared.fault.ProgramFault.{ProgramFault}
-use Rattle.dasd_run.specs.declared.fault.ProgramFault.TheVariants as fault
+use Rattle.program_faults.specs.declared.fault.ProgramFault.{ProgramFault}
+use Rattle.program_faults.specs.declared.fault.ProgramFault.TheVariants as fault
 use Rattle.dasd_run.specs.Ended.{ended, done_or, counted_ending}
 use Rattle.dasd_run.specs.Outside.{Outside, left_of}
 use Rattle.dasd_run.specs.Paths.{quoted_paths}

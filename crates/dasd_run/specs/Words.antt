@@ -7,8 +7,8 @@ use Rattle.s360_assembler.specs.Assembled.{assembled, IsAssembled}
 use Rattle.s360_assembler.specs.declared.fault.AssemblyFault.{AssemblyFault}
 use Rattle.s360_disassembler.specs.Words.{AreWordsOf, NotDisassembled}
 use Rattle.dasd_run.specs.declared.commands.Ending.{Ending}
-use Rattle.dasd_run.specs.declared.fault.ProgramFault.{ProgramFault}
-use Rattle.dasd_run.specs.declared.fault.ProgramFault.TheVariants as fault
+use Rattle.program_faults.specs.declared.fault.ProgramFault.{ProgramFault}
+use Rattle.program_faults.specs.declared.fault.ProgramFault.TheVariants as fault
 use Rattle.dasd_jobs.specs.Sources.{SourceFile}
 use Rattle.s360_assembler.specs.Files.{files_named}
 use Rattle.s360_assembler.specs.declared.files.LoadableFile.{LoadableFile}

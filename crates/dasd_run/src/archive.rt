@@ -12,7 +12,6 @@ ghost use Rattle.dasd_run.specs.Outside.{Looks};
 ghost use Rattle.dasd_run.specs.Printed.{style_of, range_of, asked_part};
 
 use crate::commands::{Ending, worse};
-use crate::fault::ProgramFault;
 use crate::host::Host;
 use crate::printed_paths::quoted;
 use crate::reaches::with_reach;
@@ -22,6 +21,7 @@ use dasd_archive::{Comparison, VolumePart, compare, dump, has_records};
 use dasd_jobs::{Progress, SlotReader, Traces, open_volume};
 use dasd_volumes::{Form, Range, Style, VolumeFault};
 use dasd_words::{ComparedVolumes, DumpedPart, Numbers, PrintedVolume};
+use program_faults::ProgramFault;
 use std::alloc::Global;
 use std::io::{Read, Write};
 use std::{fmt, io};

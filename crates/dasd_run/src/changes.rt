@@ -5,12 +5,12 @@ ghost use Rattle.dasd_run.specs.Changes.{source_of, RenamesAsked, DeletesAsked, 
 ghost use Rattle.dasd_run.specs.Ended.{KeepsFiles};
 
 use crate::commands::Ending;
-use crate::fault::ProgramFault;
 use crate::host::Host;
 use changed_volumes::{ChangedVolume, NewName, delete_data_set, relabel_volume, rename_data_set};
 use dasd_jobs::{Progress, Traces};
 use dasd_words::{DeletedSet, FileForm, LoadedFile, RelabelledVolume, RenamedSet};
 use loaded_sets::{NewSet, NewSetForm, SourceForm, load_set};
+use program_faults::ProgramFault;
 use std::io::{Read, Write};
 use volume_changes::LabelFields;
 use volume_labels::Date;

@@ -5,7 +5,7 @@ ghost use Rattle.admitted_words.specs.Writing.{OnlyRead};
 ghost use Rattle.counted_io.specs.Streams.{seen_by};
 ghost use Rattle.dasd_run.specs.Answers.{FormatsVolume, ListsVolume, ChecksVolume, Answers};
 ghost use Rattle.dasd_run.specs.Ended.{worse, KeepsFiles};
-ghost use Rattle.dasd_run.specs.Faults.{keeps_files};
+ghost use Rattle.program_faults.specs.Faults.{keeps_files};
 ghost use Rattle.dasd_run.specs.Obeyed.{Obeys};
 ghost use Rattle.dasd_run.specs.Outside.{Looks};
 ghost use Rattle.dasd_run.specs.Runs.{RunsOrStops, Tells};
@@ -16,18 +16,19 @@ use crate::changes::{delete_set, load_file, relabel, rename_set};
 use crate::decks::{read_deck, run_deck, tell_fault};
 use crate::details::{list_details, list_library};
 use crate::explain::explain;
-use crate::fault::ProgramFault;
 use crate::folders::{load_all, load_one};
 use crate::hash::hash_volume;
 use crate::host::Host;
 use crate::labels::format_with_label;
 use crate::list::list_part;
+use crate::members::{delete_one, rename_one};
 use crate::recovery::recover;
 use crate::runs::{Disks, build, finish, tell_running};
 use crate::strict::check_strictly;
 use crate::traces::{begin_trace, end_trace};
 use crate::unload::{extract_set, extract_tracks, extract_volume};
 use crate::vtoc::list_contents;
+use crate::whole::check_contents;
 use crate::words::{assemble_text, disassemble_deck};
 use admitted_words::read_admitted;
 use counted_io::{Counted, WriteFault, write_flushed};
@@ -36,6 +37,7 @@ use dasd_jobs::{
     format_file, list_files,
 };
 use dasd_words::{DeckRun, NewImage, Request, WordFault};
+use program_faults::ProgramFault;
 use s360_deck::RunFault;
 use std::alloc::Global;
 use std::io::{Read, Write};
@@ -99,6 +101,7 @@ pub fn answer<F: Journals, R: Read, W: Write, P: Progress>(
         Request::ListPart(volume, part) => list_part(host, &volume, part),
         Request::Check(paths) => check_volume(host, paths.as_slice()),
         Request::CheckStrictly(asked) => check_strictly(host, &asked),
+        Request::CheckContents(volume) => check_contents(host, &volume),
         Request::Dump(volume, part) => dump_part(host, &volume, part),
         Request::Compare(volumes) => compare_both(host, &volumes),
         Request::Hash(asked) => hash_volume(host, &asked),
@@ -109,7 +112,9 @@ pub fn answer<F: Journals, R: Read, W: Write, P: Progress>(
         Request::ExtractTracks(asked) => extract_tracks(host, &asked),
         Request::ExtractAll(asked) => extract_volume(host, &asked),
         Request::Rename(asked) => rename_set(host, &asked),
+        Request::RenameMember(asked) => rename_one(host, &asked),
         Request::Delete(asked) => delete_set(host, &asked),
+        Request::DeleteMember(asked) => delete_one(host, &asked),
         Request::Relabel(asked) => relabel(host, &asked),
         Request::Recover(asked) => recover(host, &asked),
         Request::Load(asked) => load_file(host, &asked),

@@ -6,7 +6,6 @@ ghost use Rattle.dasd_run.specs.Details.{PrintsDetails, ListsDetails, ListsMembe
 ghost use Rattle.dasd_run.specs.Outside.{Looks};
 
 use crate::commands::{Ending, worse};
-use crate::fault::ProgramFault;
 use crate::host::Host;
 use crate::printed_paths::{path_if, quoted};
 use crate::reaches::with_reach;
@@ -14,6 +13,7 @@ use crate::vtoc::{checked_contents, held_ending, write_contents};
 use counted_io::Counted;
 use dasd_jobs::{Progress, SlotReader, Traces, open_volume};
 use dasd_words::{DetailedVolume, ListedLibrary};
+use program_faults::ProgramFault;
 use std::alloc::Global;
 use std::io::{Read, Write};
 use volume_details::{DetailForm, print_library, print_sections};

@@ -4,10 +4,10 @@ ghost use Rattle.std.specs.Prelude.{OnOk};
 ghost use Rattle.counted_io.specs.Streams.{seen_by, IsFlushed};
 
 use crate::commands::Ending;
-use crate::fault::ProgramFault;
 use counted_io::Counted;
 use dasd_jobs::JobFault;
 use dasd_words::Noted;
+use program_faults::ProgramFault;
 use s360_explain::{of_ccw, of_csw, of_ending, of_pasted, of_sense, of_status};
 use s360_words::{Ccw, Csw};
 use std::io::Write;

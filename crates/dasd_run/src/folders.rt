@@ -6,12 +6,12 @@ ghost use Rattle.dasd_run.specs.Folders.{FolderAsked, MemberAsked};
 
 use crate::changes::source_of;
 use crate::commands::Ending;
-use crate::fault::ProgramFault;
 use crate::host::Host;
 use changed_volumes::ChangedVolume;
 use dasd_jobs::{Progress, Traces};
 use dasd_words::{LoadedFolder, LoadedMember};
 use loaded_folders::{NewFolder, NewMemberFile, load_folder, load_member};
+use program_faults::ProgramFault;
 use std::io::{Read, Write};
 
 /// Puts the data sets of a folder onto the volume of its files.

@@ -8,12 +8,12 @@ ghost use Rattle.dasd_run.specs.Outside.{Looks};
 ghost use Rattle.dasd_run.specs.Printed.{HashesWhole};
 
 use crate::commands::{Ending, worse};
-use crate::fault::ProgramFault;
 use crate::host::Host;
 use crate::printed_paths::{joined, quoted};
 use counted_io::Counted;
 use dasd_jobs::{Progress, SlotReader, Traces, open_volume};
 use dasd_words::{HashedVolume, PrintedVolume};
+use program_faults::ProgramFault;
 use std::alloc::Global;
 use std::io::{Read, Write};
 use volume_hash::{HashesForm, print_hashes};

@@ -3,13 +3,13 @@
 ghost use Rattle.std.specs.Prelude.{◌≡◌, true, map, IfErr};
 ghost use Rattle.admitted_words.specs.Writing.{OnlyRead};
 ghost use Rattle.counted_io.specs.Streams.{seen_by};
-ghost use Rattle.dasd_run.specs.Faults.{keeps_files};
+ghost use Rattle.program_faults.specs.Faults.{keeps_files};
 ghost use Rattle.dasd_run.specs.Obeyed.{Obeys, outside};
 
 use crate::commands::{Ending, obey};
-use crate::fault::ProgramFault;
 use counted_io::Counted;
 use dasd_jobs::{Journals, Progress, Traces};
+use program_faults::ProgramFault;
 use std::alloc::Global;
 use std::io::{Read, Write};
 use std::marker::Model;

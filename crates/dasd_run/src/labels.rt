@@ -5,12 +5,12 @@ ghost use Rattle.dasd_run.specs.Ended.{KeepsFiles};
 ghost use Rattle.dasd_run.specs.Labels.{FormatsWithLabel};
 
 use crate::commands::Ending;
-use crate::fault::ProgramFault;
 use crate::host::Host;
 use changed_volumes::{LabelledVolume, format_labelled};
 use dasd_jobs::{Progress, Traces};
 use dasd_words::NewImage;
 use new_labels::NewLabel;
+use program_faults::ProgramFault;
 use std::io::{Read, Write};
 
 /// Writes a new image with a label and an empty table of contents.

@@ -8,7 +8,6 @@ ghost use Rattle.dasd_run.specs.Printed.{asked_cylinders, asked_list, HasCylinde
 
 use crate::archive::{range, style};
 use crate::commands::Ending;
-use crate::fault::ProgramFault;
 use crate::host::Host;
 use crate::printed_paths::quoted;
 use crate::reaches::with_reach;
@@ -17,6 +16,7 @@ use counted_io::Counted;
 use dasd_jobs::{Progress, SlotReader, Traces, open_volume};
 use dasd_volumes::{Form, Listing, Range};
 use dasd_words::{ListedPart, Numbers, PrintedVolume};
+use program_faults::ProgramFault;
 use std::alloc::Global;
 use std::io::{Read, Write};
 

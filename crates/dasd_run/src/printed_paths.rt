@@ -4,7 +4,7 @@ ghost use Rattle.std.specs.Prelude.{◌≡◌, map, string_bytes, if◌then◌el
 ghost use Rattle.std.specs.Option.{option_copied};
 ghost use Rattle.dasd_run.specs.Paths.{joined_paths, quoted_paths};
 
-use crate::fault::ProgramFault;
+use program_faults::ProgramFault;
 use serde_json::Value;
 use std::alloc::Global;
 

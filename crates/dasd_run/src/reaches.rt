@@ -4,8 +4,8 @@ ghost use Rattle.std.specs.Prelude.{◌≡◌};
 ghost use Rattle.dasd_run.specs.Reaches.{with_reach};
 
 use crate::commands::{Ending, worse};
-use crate::fault::ProgramFault;
 use dasd_jobs::Reach;
+use program_faults::ProgramFault;
 
 /// How a command ends that ended so over a volume whose files go so far: there are findings where they lack tracks.
 pub(crate) fn with_reach(

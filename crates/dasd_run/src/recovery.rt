@@ -4,10 +4,10 @@ ghost use Rattle.dasd_run.specs.Ended.{KeepsFiles};
 ghost use Rattle.dasd_run.specs.Recovered.{Recovers};
 
 use crate::commands::Ending;
-use crate::fault::ProgramFault;
 use crate::host::Host;
 use dasd_jobs::{Journals, Progress, recover_files};
 use dasd_words::RecoveredFiles;
+use program_faults::ProgramFault;
 use std::io::{Read, Write};
 
 /// Completes the saves of these files, or drops their journals. It prints nothing; what is done is told beside that.

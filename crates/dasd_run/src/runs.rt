@@ -4,16 +4,16 @@ ghost use Rattle.std.specs.Prelude.{◌≡◌, ◌<◌, [], true, false, positio
 ghost use Rattle.std.specs.List.{AllZip};
 ghost use Rattle.s360_words.specs.Storage.{is_size};
 ghost use Rattle.dasd_run.specs.Built.{IsNewChannel, NotMade, Opens, OpensVolumes, AttachesOne, HasNoImage, is_addressed, HasAddressOf, NotAttached, NotBuilt};
-ghost use Rattle.dasd_run.specs.Faults.{keeps_files};
+ghost use Rattle.program_faults.specs.Faults.{keeps_files};
 ghost use Rattle.dasd_run.specs.Saves.{SavesRun};
 
-use crate::fault::{ProgramFault, of_volume};
 use crate::remarks::Remark;
 use crate::saves::save_all;
 use ckd_image::Image;
 use dasd_files::VolumeFile;
 use dasd_jobs::{ImageFiles, JobFault, new_image, read_image};
 use dasd_words::{Volume, VolumeSource};
+use program_faults::{ProgramFault, of_volume};
 use s360_channel::{AttachFault, Channel, Finished, NewFault, SubchannelView};
 use s360_words::{Storage, StorageFault};
 use std::alloc::Global;

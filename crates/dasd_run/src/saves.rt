@@ -5,11 +5,11 @@ ghost use Rattle.dasd_jobs.specs.Back.{IsWritten};
 ghost use Rattle.dasd_jobs.specs.Written.{files_of};
 ghost use Rattle.dasd_run.specs.Saves.{paths_of, SavesAll};
 
-use crate::fault::ProgramFault;
 use ckd_image::Image;
 use dasd_files::VolumeFile;
 use dasd_jobs::{ImageFiles, JobFault, NewFile, begin_changed, of_write};
 use dasd_words::{Volume, VolumeSource};
+use program_faults::ProgramFault;
 use std::alloc::Global;
 
 /// The image of a drive, and the address that it had.

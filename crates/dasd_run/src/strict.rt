@@ -8,7 +8,6 @@ ghost use Rattle.dasd_run.specs.Strict.{found_in, ChecksWhole, ChecksStrictly};
 
 use crate::archive::style;
 use crate::commands::{Ending, worse};
-use crate::fault::ProgramFault;
 use crate::host::Host;
 use crate::printed_paths::quoted;
 use ckd_image::HEADER_LENGTH;
@@ -17,6 +16,7 @@ use dasd_archive::{FileHeader, FindingForm, FindingStyle, Tally, check_headers, 
 use dasd_jobs::{Progress, SlotReader, Traces, open_volume};
 use dasd_volumes::VolumeFault;
 use dasd_words::StrictCheck;
+use program_faults::ProgramFault;
 use std::alloc::Global;
 use std::io::{Read, Write};
 

@@ -2,12 +2,12 @@
 
 ghost use Rattle.std.specs.Prelude.{◌≡◌, false, IfErr};
 ghost use Rattle.dasd_run.specs.Decks.{NoTrace};
-ghost use Rattle.dasd_run.specs.Faults.{keeps_files, opening_fault};
+ghost use Rattle.program_faults.specs.Faults.{keeps_files, opening_fault};
 
-use crate::fault::ProgramFault;
 use crate::remarks::Remark;
 use dasd_jobs::{FileFault, Traces};
 use dasd_words::{AskedTrace, DeckRun, TraceTarget, VolumeSource};
+use program_faults::ProgramFault;
 use s360_deck::RunFault;
 use std::alloc::Global;
 use std::io::Write;

@@ -5,7 +5,6 @@ ghost use Rattle.dasd_run.specs.Ended.{KeepsFiles};
 ghost use Rattle.dasd_run.specs.Unloads.{block_form_of, ExtractsSet, ExtractsTracks, ExtractsVolume};
 
 use crate::commands::{Ending, worse};
-use crate::fault::ProgramFault;
 use crate::host::Host;
 use crate::printed_paths::quoted;
 use dasd_jobs::{Progress, Traces, open_volume};
@@ -13,6 +12,7 @@ use dasd_unload::{
     BlockForm, WantedSet, WantedTracks, WantedVolume, unload_set, unload_tracks, unload_volume,
 };
 use dasd_words::{ExtractedSet, ExtractedTracks, ExtractedVolume, FileForm};
+use program_faults::ProgramFault;
 use std::io::{Read, Write};
 
 // How blocks are written to what a file is to have.

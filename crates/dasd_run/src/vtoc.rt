@@ -9,7 +9,6 @@ ghost use Rattle.dasd_run.specs.Held.{SaysAll, PrintsHeld, ListsContents, conten
 ghost use Rattle.dasd_run.specs.Outside.{Looks};
 
 use crate::commands::{Ending, worse};
-use crate::fault::ProgramFault;
 use crate::host::Host;
 use crate::printed_paths::{path_if, quoted};
 use crate::reaches::with_reach;
@@ -19,6 +18,7 @@ use dasd_contents::{write_lines, write_objects};
 use dasd_jobs::{JobFault, Progress, SlotReader, Traces, open_volume};
 use dasd_volumes::VolumeFault;
 use dasd_words::PrintedVolume;
+use program_faults::ProgramFault;
 use std::alloc::Global;
 use std::io::{Read, Write};
 use volume_contents::{Contents, check_contents, read_contents};

@@ -6,11 +6,11 @@ ghost use Rattle.dasd_run.specs.Words.{source_name, MakesDeck, AssemblesText, Pr
 
 use crate::commands::{Ending, tell};
 use crate::decks::read_deck;
-use crate::fault::ProgramFault;
 use crate::host::Host;
 use crate::loads::load_files;
 use counted_io::Counted;
 use dasd_jobs::{ImageFiles, Progress, Traces};
+use program_faults::ProgramFault;
 use s360_assembler::{AssemblyFault, assemble, files_named};
 use s360_deck::RunFault;
 use s360_disassembler::{DisassemblyFault, disassemble};

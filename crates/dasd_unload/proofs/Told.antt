@@ -25,5 +25,9 @@ pub then_findings : {A : Type 0} (r : Result A UnloadFault) (json : Option (List
     → TellsText r (flat_map (line_text json) (finding_lines name next)) b c
     → TellsText r (flat_map (line_text json) (finding_lines name (first ++ next))) a c
 then_findings r json name first next a b c told this = subst (λ text. TellsText r text a c)
-    (sym (cc (map-append (FindingLine name) first next, flat_map-append (line_text json) (finding_lines name first) (finding_lines name next))))
+    (sym (cc (
+      map-append (FindingLine name) first next,
+      flat_map-append (line_text json) (finding_lines name first)
+          (finding_lines name next),
+    )))
     (then_told r _ _ a b c told this)

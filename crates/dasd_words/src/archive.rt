@@ -1,5 +1,7 @@
 //! The words of what an archive asks: a strict check, a dump, and a comparison.
 
+ghost use Rattle.std.specs.Prelude.{◌≤◌, IfSome};
+
 use crate::commands::{NO_PATH, wrong};
 use crate::listings::{self, PATHS, read_joined, read_paths};
 use crate::options::{AS_FAR, ArgKind, ArgRow, CommandRow, JSON, WORD, WORDS};
@@ -14,11 +16,11 @@ error: no cylinder and head after the paths, as 0 3, 0-2 3 1-4 or 0x14 0x3
 Numbers are decimal, or hexadecimal after 0x, as places are printed; records have those from 0 to 255.
 ";
 
-const STRICT_JSON: &str = "error: --json goes with --strict\n";
+const STRICT_JSON: &str = "error: --json goes with --strict or --contents\n";
 
 const STRICT_WARNINGS: &str = "error: --warnings goes with --strict\n";
 
-const STRICT_FAR: &str = "error: --as-far-as-it-goes goes with --strict\n";
+const STRICT_FAR: &str = "error: --as-far-as-it-goes goes with --strict or --contents\n";
 
 /// The name of the words of a dump.
 const DUMP_WORDS: &str = "WORD";
@@ -28,7 +30,7 @@ const ALL_NUMBERS: &str = "0-255";
 
 const LAST_RECORD: u16 = 255;
 
-/// `dasd check`, with the words of a strict one.
+/// `dasd check`, with the words of a strict one and of one of data sets.
 pub(crate) static CHECK: CommandRow = CommandRow {
     name: "check",
     about: "Lists the unreadable tracks of a volume",
@@ -46,6 +48,11 @@ pub(crate) static CHECK: CommandRow = CommandRow {
             help: "prints only errors and warnings; notes are counted",
             kind: ArgKind::Flag,
         },
+        ArgRow {
+            id: "contents",
+            help: "prints what is wrong with label, table of contents, extents, free tracks, directories, members and data sets",
+            kind: ArgKind::FlagWithout(&["strict"]),
+        },
         AS_FAR,
         JSON,
     ],
@@ -61,11 +68,14 @@ pub(crate) fn read_check<'a>(
     if options.get_flag("strict") {
         return Ok(Request::CheckStrictly(StrictCheck { volume, with_notes }));
     }
-    if volume.json {
-        return Err(wrong(alloc, STRICT_JSON));
-    }
     if !with_notes {
         return Err(wrong(alloc, STRICT_WARNINGS));
+    }
+    if options.get_flag("contents") {
+        return Ok(Request::CheckContents(volume));
+    }
+    if volume.json {
+        return Err(wrong(alloc, STRICT_JSON));
     }
     if volume.as_far {
         return Err(wrong(alloc, STRICT_FAR));
@@ -132,7 +142,9 @@ fn numbers_of(cylinders: &str, heads: &str, records: &str) -> Option<DumpedPart>
 }
 
 /// A number, or two with a hyphen between, the first of which is not greater.
-pub(crate) fn read_numbers(word: &str) -> Option<Numbers> {
+pub(crate) fn read_numbers(word: &str) -> Option<Numbers>
+    ensures { IfSome result (λ n. n.first ≤ n.last) }
+{
     let (first, last) = word.split_once('-').unwrap_or((word, word));
     let first = read_number(first)?;
     let last = read_number(last)?;

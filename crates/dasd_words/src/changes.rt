@@ -1,10 +1,14 @@
 //! The words of `dasd rename`, `dasd delete` and `dasd relabel`.
 
 use crate::commands::wrong;
+use crate::extract::read_name;
 use crate::label::{read_owner, read_serial};
 use crate::listings::{PATHS, read, read_paths};
 use crate::options::{ArgKind, ArgRow, CommandRow, FILE, Value, WORDS};
-use crate::requests::{DeletedSet, RelabelledVolume, RenamedSet, Request, WordFault};
+use crate::requests::{
+    DeletedMember, DeletedSet, RelabelledVolume, RenamedMember, RenamedSet, Request, SetName,
+    WordFault,
+};
 use clap::ArgMatches;
 use std::alloc::Global;
 
@@ -12,30 +16,30 @@ use std::alloc::Global;
 const PATHS_AND_NAMES: &str = "WORD";
 
 const NO_NAMES: &str =
-    "error: rename takes the files of an image, and after them the name of a data set and its new one\n";
+    "error: rename takes the files of an image, and after them the name of a data set or a member and its new one\n";
 
 const NO_NAME: &str =
-    "error: delete takes the files of an image, and after them the name of a data set\n";
+    "error: delete takes the files of an image, and after them the name of a data set or a member\n";
 
 const NO_FIELD: &str = "error: relabel takes --label, --owner or both\n";
 
 /// The option for files that don't keep their place.
 pub(crate) const REPLACE: ArgRow = ArgRow {
     id: "replace",
-    help: "replaces each changed image by a new file instead of overwriting it",
+    help: "replaces each changed image by a new file, without its access list, instead of overwriting it",
     kind: ArgKind::Flag,
 };
 
 /// The command that gives a data set another name.
 pub(crate) static RENAME: CommandRow = CommandRow {
     name: "rename",
-    about: "Gives a data set of a volume another name",
+    about: "Gives a data set of a volume, or a member of a library, another name",
     usage: Some("dasd rename [OPTIONS] PATH.. OLD NEW"),
-    after_help: "Example: dasd rename pack.ckd PAYROLL PAYROLL.OLD",
+    after_help: "Example: dasd rename pack.ckd 'SYS1.MACLIB(OPEN)' 'SYS1.MACLIB(OPENOLD)'",
     args: &[
         ArgRow {
             id: PATHS_AND_NAMES,
-            help: "the files of an image, and after them the name of a data set and its new one",
+            help: "the files of an image, and after them the name and the new one, as PAYROLL or SYS1.MACLIB(OPEN)",
             kind: WORDS,
         },
         REPLACE,
@@ -45,13 +49,13 @@ pub(crate) static RENAME: CommandRow = CommandRow {
 /// The command that deletes a data set.
 pub(crate) static DELETE: CommandRow = CommandRow {
     name: "delete",
-    about: "Deletes a data set of a volume: its control blocks and tracks become free, and its data stay on them",
+    about: "Deletes a data set of a volume: its control blocks and tracks become free, and its data stay on them; or a member of a library",
     usage: Some("dasd delete [OPTIONS] PATH.. NAME"),
     after_help: "Example: dasd delete pack.ckd PAYROLL.OLD",
     args: &[
         ArgRow {
             id: PATHS_AND_NAMES,
-            help: "the files of an image, and after them the name of a data set",
+            help: "the files of an image, and after them a data set or a member, as PAYROLL or SYS1.MACLIB(OPEN)",
             kind: WORDS,
         },
         REPLACE,
@@ -86,20 +90,42 @@ pub(crate) static RELABEL: CommandRow = CommandRow {
     ],
 };
 
-/// What a rename is asked: the last two words are the names, and all before them are paths.
+// The library and the name of a member, where a word has both.
+fn read_member(word: &str) -> Option<(&str, &str)> {
+    let SetName { data_set, member } = read_name(word)?;
+    Some((data_set, member?))
+}
+
+/// What a rename is asked: the last two words are the names, and all before them are paths. Two members of one library are renamed as members.
 pub(crate) fn read_rename<'a>(
     alloc: Global,
     options: &ArgMatches<'a>,
 ) -> Result<Request<'a>, WordFault> {
     let words = options.get_strs(PATHS_AND_NAMES).unwrap_or(&[]);
-    match words {
-        [paths @ .., old, new] if !paths.is_empty() => Ok(Request::Rename(RenamedSet {
-            paths: read_paths(alloc, paths)?,
-            replaces: options.get_flag("replace"),
+    let [paths @ .., old, new] = words else {
+        return Err(wrong(alloc, NO_NAMES));
+    };
+    if paths.is_empty() {
+        return Err(wrong(alloc, NO_NAMES));
+    }
+    let paths = read_paths(alloc, paths)?;
+    let replaces = options.get_flag("replace");
+    match (read_member(old), read_member(new)) {
+        (Some((library, old)), Some((other, new))) if library == other => {
+            Ok(Request::RenameMember(RenamedMember {
+                paths,
+                replaces,
+                library,
+                old,
+                new,
+            }))
+        }
+        _ => Ok(Request::Rename(RenamedSet {
+            paths,
+            replaces,
             old,
             new,
         })),
-        _ => Err(wrong(alloc, NO_NAMES)),
     }
 }
 
@@ -109,13 +135,26 @@ pub(crate) fn read_delete<'a>(
     options: &ArgMatches<'a>,
 ) -> Result<Request<'a>, WordFault> {
     let words = options.get_strs(PATHS_AND_NAMES).unwrap_or(&[]);
-    match words {
-        [paths @ .., name] if !paths.is_empty() => Ok(Request::Delete(DeletedSet {
-            paths: read_paths(alloc, paths)?,
-            replaces: options.get_flag("replace"),
+    let [paths @ .., name] = words else {
+        return Err(wrong(alloc, NO_NAME));
+    };
+    if paths.is_empty() {
+        return Err(wrong(alloc, NO_NAME));
+    }
+    let paths = read_paths(alloc, paths)?;
+    let replaces = options.get_flag("replace");
+    match read_member(name) {
+        None => Ok(Request::Delete(DeletedSet {
+            paths,
+            replaces,
             name,
         })),
-        _ => Err(wrong(alloc, NO_NAME)),
+        Some((library, member)) => Ok(Request::DeleteMember(DeletedMember {
+            paths,
+            replaces,
+            library,
+            member,
+        })),
     }
 }
 

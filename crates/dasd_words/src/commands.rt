@@ -11,6 +11,10 @@ use std::alloc::{AllocError, Global};
 
 pub(crate) const NO_PATH: &str = "error: no path\n";
 
+/// What stands after the commands in the help.
+const AFTER_HELP: &str = "Example: dasd run 90=new:2311:1 < deck.txt
+Without words dasd runs a stored deck over a new volume, and reads nothing";
+
 /// How many commands there are.
 const COMMANDS: usize = 17;
 
@@ -43,7 +47,7 @@ fn dasd_command<'a>(alloc: Global) -> Result<Command<'a>, AllocError> {
     let dasd = Command::new(alloc, "dasd")
         .about("Formats, lists and checks CKD_P370 disk images, and runs decks over them")
         .version("1.2.0")
-        .after_help("Example: dasd run 90=new:2311:1 < deck.txt")
+        .after_help(AFTER_HELP)
         .subcommand_required(true);
     let dasd = with_commands(alloc, dasd)?;
     with_arg(alloc, dasd, &VERBOSE)

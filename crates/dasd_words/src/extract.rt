@@ -186,8 +186,8 @@ fn split_words<'w, 'a>(words: &'w [&'a str]) -> Option<(&'w [&'a str], SetName<'
     }
 }
 
-// A data set's name, with the name of a member in parentheses or without.
-fn read_name(word: &str) -> Option<SetName<'_>> {
+/// A data set's name, with the name of a member in parentheses or without.
+pub(crate) fn read_name(word: &str) -> Option<SetName<'_>> {
     let Some((data_set, rest)) = word.split_once('(') else {
         return (!word.is_empty()).then_some(SetName {
             data_set: word,

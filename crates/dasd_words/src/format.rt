@@ -1,5 +1,7 @@
 //! The words of `dasd format`.
 
+ghost use Rattle.std.specs.Prelude.{◌<◌, IfOk};
+
 use crate::commands::{NO_PATH, wrong};
 use crate::label::read_label;
 use crate::options::{ArgKind, ArgRow, CommandRow, FILE, Value, WORD, not_taken};
@@ -108,7 +110,9 @@ pub(crate) fn read<'a>(alloc: Global, options: &ArgMatches<'a>) -> Result<Reques
 }
 
 // The number of cylinders.
-fn read_cylinders(alloc: Global, options: &ArgMatches) -> Result<u16, WordFault> {
+fn read_cylinders(alloc: Global, options: &ArgMatches) -> Result<u16, WordFault>
+    ensures { IfOk result (λ n. 0 < n) }
+{
     let word = options.get_str("cylinders").unwrap_or(CYLINDERS);
     match word.parse::<u16>() {
         Ok(0) | Err(_) => Err(not_taken(alloc, "cylinders", CYLINDERS_RULE, word)),

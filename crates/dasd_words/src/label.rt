@@ -1,5 +1,8 @@
 //! The words of a label: of `dasd format`, and of `dasd relabel`.
 
+ghost use Rattle.std.specs.Prelude.{◌≡◌, ◌+◌, ◌*◌, IfSome};
+ghost use Rattle.ckd_track.specs.Model.{heads_of};
+
 use crate::commands::wrong;
 use crate::options::not_taken;
 use crate::requests::WordFault;
@@ -100,8 +103,8 @@ fn read_start(word: &str, model: DriveModel) -> Option<(u16, u16)> {
     Some((cylinder, head))
 }
 
-// Decimal digits alone.
-fn read_number(digits: &str) -> Option<u16> {
+/// Decimal digits alone.
+pub(crate) fn read_number(digits: &str) -> Option<u16> {
     if !digits.bytes().all(|byte| byte.is_ascii_digit()) {
         return None;
     }
@@ -109,7 +112,9 @@ fn read_number(digits: &str) -> Option<u16> {
 }
 
 // The number of a track on its volume.
-fn number_of(cylinder: u16, head: u16, model: DriveModel) -> Option<u16> {
+fn number_of(cylinder: u16, head: u16, model: DriveModel) -> Option<u16>
+    ensures { IfSome result (λ n. n ≡ cylinder * heads_of model + head) }
+{
     cylinder.checked_mul(model.heads())?.checked_add(head)
 }
 

@@ -26,13 +26,13 @@ mod vtoc;
 pub use crate::commands::read_words;
 pub use crate::decks::{DECK_TABLE, operand_rule};
 pub use crate::refused::{
-    VOLUME_RULE, first_bad_volume, is_comparison, object_path, taken_address,
+    NamedSet, VOLUME_RULE, first_bad_volume, is_comparison, named_set, object_path, taken_address,
 };
 pub use crate::requests::{
-    Asked, AskedTrace, ComparedVolumes, DeckRun, DeletedSet, DetailedVolume, DumpedPart,
-    ExtractedSet, ExtractedTracks, ExtractedVolume, FileForm, HashedVolume, ListedLibrary,
-    ListedPart, LoadedFile, LoadedFolder, LoadedMember, NewImage, Noted, Numbers, PrintedVolume,
-    RecoveredFiles, RelabelledVolume, RenamedSet, Request, SetName, StrictCheck, TraceTarget,
-    WordFault,
+    Asked, AskedTrace, ComparedVolumes, DeckRun, DeletedMember, DeletedSet, DetailedVolume,
+    DumpedPart, ExtractedSet, ExtractedTracks, ExtractedVolume, FileForm, HashedVolume,
+    ListedLibrary, ListedPart, LoadedFile, LoadedFolder, LoadedMember, NewImage, Noted, Numbers,
+    PrintedVolume, RecoveredFiles, RelabelledVolume, RenamedMember, RenamedSet, Request, SetName,
+    StrictCheck, TraceTarget, WordFault,
 };
 pub use crate::volumes::{Volume, VolumeSource};

@@ -1,6 +1,9 @@
 //! The words that give a record format and lengths.
 
+ghost use Rattle.std.specs.Prelude.{◌<◌, IfSome};
+
 use crate::commands::wrong;
+use crate::label::read_number;
 use crate::options::{ArgKind, ArgRow, FILE, Value, not_taken};
 use crate::requests::{FileForm, WordFault};
 use clap::ArgMatches;
@@ -139,7 +142,7 @@ pub(crate) fn read_key_length(alloc: Global, options: &ArgMatches) -> Result<u8,
     let Some(word) = options.get_str("key-length") else {
         return Ok(0);
     };
-    match length_of(word).and_then(|length| u8::try_from(length).ok()) {
+    match read_count(word).and_then(|length| u8::try_from(length).ok()) {
         Some(length) => Ok(length),
         None => Err(not_taken(alloc, "key-length", KEY_LENGTH_RULE, word)),
     }
@@ -185,16 +188,18 @@ fn read_length(alloc: Global, options: &ArgMatches, id: &str) -> Result<u16, Wor
     let Some(word) = options.get_str(id) else {
         return Ok(0);
     };
-    match length_of(word) {
+    match read_count(word) {
         Some(length) => Ok(length),
         None => Err(not_taken(alloc, id, LENGTH_RULE, word)),
     }
 }
 
-// 1 to 65535 in decimal digits alone.
-fn length_of(digits: &str) -> Option<u16> {
-    if !digits.bytes().all(|byte| byte.is_ascii_digit()) {
-        return None;
+/// 1 to 65535 in decimal digits alone.
+pub(crate) fn read_count(digits: &str) -> Option<u16>
+    ensures { IfSome result (λ n. 0 < n) }
+{
+    match read_number(digits) {
+        Some(0) | None => None,
+        Some(count) => Some(count),
     }
-    digits.parse::<u16>().ok().filter(|length| *length > 0)
 }

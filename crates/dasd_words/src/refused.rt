@@ -1,7 +1,7 @@
 //! What is said of words that a command refuses, or that it can't do.
 
 use crate::commands::{match_words, read_words};
-use crate::requests::{PrintedVolume, Request};
+use crate::requests::{PrintedVolume, Request, SetName};
 use crate::run::read_volumes;
 use crate::volumes::{Volume, read_volume};
 use std::alloc::Global;
@@ -42,13 +42,50 @@ fn taken(volumes: &[Volume]) -> Option<u8> {
     None
 }
 
+/// The data set, and maybe the member, that a command names.
+#[derive(Drop)]
+pub struct NamedSet<'a> {
+    /// The files of the volume.
+    pub paths: Vec<&'a str>,
+    /// Whether they are read as far as they go.
+    pub as_far: bool,
+    /// The names as they were given.
+    pub name: SetName<'a>,
+}
+
+/// The data set that these words name: of a rename the old one.
+pub fn named_set<'a>(alloc: Global, words: &'a [&'a str]) -> Option<NamedSet<'a>> {
+    let asked = read_words(alloc, words).ok()?;
+    let (paths, as_far, data_set, member) = match &asked.request {
+        Request::Extract(it) => (&it.paths, it.as_far, it.name.data_set, it.name.member),
+        Request::ExtractTracks(it) => (&it.paths, it.as_far, it.name, None),
+        Request::ListMembers(it) => (&it.volume.paths, it.volume.as_far, it.name, None),
+        Request::Rename(it) => (&it.paths, false, it.old, None),
+        Request::RenameMember(it) => (&it.paths, false, it.library, Some(it.old)),
+        Request::Delete(it) => (&it.paths, false, it.name, None),
+        Request::DeleteMember(it) => (&it.paths, false, it.library, Some(it.member)),
+        Request::Load(it) => (&it.paths, false, it.name, None),
+        Request::LoadMember(it) => (&it.paths, false, it.library, Some(it.member)),
+        _ => return None,
+    };
+    let paths = Vec::from_slice(alloc, paths.as_slice()).ok()?;
+    let name = SetName { data_set, member };
+    Some(NamedSet {
+        paths,
+        as_far,
+        name,
+    })
+}
+
 /// The path that objects of JSON have which these words ask for: those of the volume's files, joined by plus signs. None is where they
 /// ask for no objects.
 pub fn object_path(alloc: Global, words: &[&str]) -> Option<String> {
     let asked = read_words(alloc, words).ok()?;
     match asked.request {
         Request::ListPart(volume, _) | Request::Dump(volume, _) => joined_of(alloc, &volume),
-        Request::ListContents(volume) => joined_of(alloc, &volume),
+        Request::ListContents(volume) | Request::CheckContents(volume) => {
+            joined_of(alloc, &volume)
+        }
         Request::Hash(hashed) => joined_of(alloc, &hashed.volume),
         Request::CheckStrictly(check) => joined_of(alloc, &check.volume),
         Request::ListDetails(details) => joined_of(alloc, &details.volume),

@@ -79,6 +79,8 @@ pub enum Request<'a> {
     Check(Vec<&'a str>),
     /// Print all that is found on a volume.
     CheckStrictly(StrictCheck<'a>),
+    /// Print all that is wrong with what a volume holds, its data sets and members too.
+    CheckContents(PrintedVolume<'a>),
     /// Print the bytes of a part of a volume.
     Dump(PrintedVolume<'a>, DumpedPart),
     /// Print what differs of the volumes of two images.
@@ -99,8 +101,12 @@ pub enum Request<'a> {
     ExtractAll(ExtractedVolume<'a>),
     /// Give a data set of a volume another name.
     Rename(RenamedSet<'a>),
+    /// Give a member of a library another name.
+    RenameMember(RenamedMember<'a>),
     /// Delete a data set of a volume.
     Delete(DeletedSet<'a>),
+    /// Delete a member of a library.
+    DeleteMember(DeletedMember<'a>),
     /// Change what the label of a volume says.
     Relabel(RelabelledVolume<'a>),
     /// Complete saves that were cut off, or drop their journals.
@@ -258,6 +264,21 @@ pub struct RenamedSet<'a> {
     pub new: &'a str,
 }
 
+/// A member of a library that gets another name.
+#[derive(Drop)]
+pub struct RenamedMember<'a> {
+    /// The files of the image.
+    pub paths: Vec<&'a str>,
+    /// Whether a new file takes the place of each that changed; if not, each keeps its place.
+    pub replaces: bool,
+    /// The name of the library.
+    pub library: &'a str,
+    /// The name that the member has.
+    pub old: &'a str,
+    /// The name that it gets.
+    pub new: &'a str,
+}
+
 /// A data set of a volume that is deleted.
 #[derive(Drop)]
 pub struct DeletedSet<'a> {
@@ -267,6 +288,19 @@ pub struct DeletedSet<'a> {
     pub replaces: bool,
     /// Its name.
     pub name: &'a str,
+}
+
+/// A member of a library that is deleted.
+#[derive(Drop)]
+pub struct DeletedMember<'a> {
+    /// The files of the image.
+    pub paths: Vec<&'a str>,
+    /// Whether a new file takes the place of each that changed; if not, each keeps its place.
+    pub replaces: bool,
+    /// The name of the library.
+    pub library: &'a str,
+    /// The name of the member.
+    pub member: &'a str,
 }
 
 /// A volume whose label says something else later: each where it is given.

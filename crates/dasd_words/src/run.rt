@@ -1,5 +1,7 @@
 //! The words of `dasd run`.
 
+ghost use Rattle.std.specs.Prelude.{◌<◌, IfOk, IfSome};
+
 use crate::decks::DECK_TABLE;
 use crate::options::{ArgKind, ArgRow, CommandRow, FILE, Value, WORDS, not_taken};
 use crate::requests::{AskedTrace, DeckRun, Request, TraceTarget, WordFault};
@@ -142,7 +144,9 @@ fn read_channel(alloc: Global, options: &ArgMatches) -> Result<u8, WordFault> {
 }
 
 // How many lines of a trace are written, which are the last ones, if not all.
-fn read_last(alloc: Global, options: &ArgMatches) -> Result<Option<u32>, WordFault> {
+fn read_last(alloc: Global, options: &ArgMatches) -> Result<Option<u32>, WordFault>
+    ensures { IfOk result (λ last. IfSome last (λ n. 0 < n)) }
+{
     let Some(word) = options.get_str("trace-last") else {
         return Ok(None);
     };

@@ -1,5 +1,8 @@
 //! The words that name volumes.
 
+ghost use Rattle.std.specs.Prelude.{◌≡◌, ◌++◌, ◌∷◌, [], OnOk};
+
+use crate::record_words::read_count;
 use crate::requests::WordFault;
 use arrayvec::ArrayVec;
 use ckd_image::MOST_FILES;
@@ -62,7 +65,7 @@ fn read_device(digits: &str) -> Option<u8> {
 fn read_new_volume(volume: &str) -> Option<Named<'_>> {
     let (model, cylinders) = volume.split_once(':')?;
     let model = read_model(model)?;
-    let cylinders = read_cylinders(cylinders)?;
+    let cylinders = read_count(cylinders)?;
     Some(Named::New(model, cylinders))
 }
 
@@ -72,17 +75,6 @@ pub(crate) fn read_model(model: &str) -> Option<DriveModel> {
         "2311" => Some(DriveModel::D2311),
         "2314" => Some(DriveModel::D2314),
         _ => None,
-    }
-}
-
-// 1 to 65535 in decimal digits alone.
-fn read_cylinders(digits: &str) -> Option<u16> {
-    if !digits.bytes().all(|byte| byte.is_ascii_digit()) {
-        return None;
-    }
-    match digits.parse::<u16>() {
-        Ok(0) | Err(_) => None,
-        Ok(cylinders) => Some(cylinders),
     }
 }
 
@@ -114,11 +106,14 @@ pub(crate) fn add_volume<'a>(
     push_volume(volumes, device, VolumeSource::Files(paths))
 }
 
+// A volume more, with what it comes from.
 fn push_volume<'a>(
     volumes: &mut Vec<Volume<'a>>,
     device: u8,
     source: VolumeSource<'a>,
-) -> Result<(), WordFault> {
+) -> Result<(), WordFault>
+    ensures { OnOk result (volumes.new.items ≡ volumes.old.items ++ record { device = device; source = source.entry } ∷ []) }
+{
     match volumes.push(Volume { device, source }) {
         Ok(()) => Ok(()),
         Err(_) => Err(WordFault::OutOfMemory),

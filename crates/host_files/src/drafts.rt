@@ -2,7 +2,7 @@
 
 ghost use Rattle.std.specs.Prelude.{◌≡◌, ◌↔◌, [], length, None, IsSome, IfSome, IsTrue, IfOk};
 
-use crate::remarks::Remarks;
+use crate::remarks::{Remark, Remarks};
 use ckd_image::{ImageStore, StoreFault};
 use dasd_jobs::NewFile;
 use file_journals::{NewBytes, Part, SaveFault, has_other_bytes, save_files};
@@ -34,6 +34,8 @@ pub(crate) struct Old {
     pub(crate) known: Metadata,
     /// The file itself, where its bytes are written over and it keeps its place.
     pub(crate) target: Option<File>,
+    /// Whether it was not read before.
+    pub(crate) is_unread: bool,
 }
 
 /// Where new bytes go.
@@ -194,22 +196,25 @@ impl<'a> HostDraft<'a> {
             None => name_new(self.host, from.as_str(), self.given.as_str())?,
         }
         self.is_put.set(true);
-        if self.is_taken_over {
-            self.note_owners(file);
+        if let Some(old) = &self.old {
+            self.note_old(file, old);
         }
         Ok(())
     }
 
-    // Notes whose the old file was, and whose the new one is.
-    fn note_owners(&self, file: &File) {
-        let Some(old) = &self.old else {
-            return;
-        };
-        if let Ok(new) = file.metadata() {
-            let (before, now) = (old.known.uid(), new.uid());
-            self.remarks
-                .note(&Told::TakenOver(self.given.as_str(), before, now));
+    // Notes what the new file lacks of the old one, and whose both are. Everybody is told that one was replaced which nobody had read.
+    fn note_old(&self, file: &File, old: &Old) {
+        let path = self.given.as_str();
+        if old.is_unread {
+            let len = old.known.len();
+            self.remarks.tell(&Remark::Replaced(path, len));
         }
+        if let (true, Ok(new)) = (self.is_taken_over, file.metadata()) {
+            let (before, now) = (old.known.uid(), new.uid());
+            self.remarks.note(&Told::TakenOver(path, before, now));
+        }
+        let mode = old.known.mode();
+        self.remarks.note(&Remark::LostRights(path, mode));
     }
 }
 

@@ -170,6 +170,7 @@ pub(crate) fn find_old(
         path: home,
         known,
         target,
+        is_unread: _,
     } = old_at(host, target, known, in_place)?;
     if is_new {
         keep(held, host.alloc(), path, &file, &known)?;
@@ -180,6 +181,7 @@ pub(crate) fn find_old(
         path: home,
         known: known_before(held.as_slice(), known)?,
         target,
+        is_unread: is_new,
     }))
 }
 
@@ -211,6 +213,7 @@ fn old_at(host: &HostRuntime, path: PathBuf, known: Metadata, in_place: bool) ->
         path,
         known,
         target,
+        is_unread: false,
     })
 }
 

@@ -180,7 +180,7 @@ impl Notes for Remarks<'_> {
     fn note_fault(&self, path: &str, fault: &Error) {
         if let Ok(text) = format!(in self.alloc; "{fault}") {
             let why = words_of(text.as_str());
-            self.note(&Refused { path, why });
+            self.note(&Remark::Refused(path, why));
         }
     }
 
@@ -188,38 +188,46 @@ impl Notes for Remarks<'_> {
     fn note_reading(&self, path: &str, at: u64, fault: &Error) {
         if fault.kind() == ErrorKind::UnexpectedEof {
             let why = "the file has become shorter";
-            self.note(&Unread { path, at, why });
+            self.note(&Remark::Unread(path, at, why));
         } else if let Ok(text) = format!(in self.alloc; "{fault}") {
             let why = words_of(text.as_str());
-            self.note(&Unread { path, at, why });
+            self.note(&Remark::Unread(path, at, why));
         }
     }
 }
 
-/// A file that the host refused, and its words for it.
+/// What is remarked of the file at a path.
 #[derive(Clone, Copy)]
-struct Refused<'a> {
-    path: &'a str,
-    why: &'a str,
+pub(crate) enum Remark<'a> {
+    /// The host refused it, with these words.
+    Refused(&'a str, &'a str),
+    /// Its bytes from a place on were not read, and why.
+    Unread(&'a str, u64, &'a str),
+    /// A new file took its place. It had so many bytes.
+    Replaced(&'a str, u64),
+    /// A new file that took its place lacks what it had beside this mode, by which the group may do so much.
+    LostRights(&'a str, u32),
 }
 
-impl fmt::Display for Refused<'_> {
+impl fmt::Display for Remark<'_> {
     fn fmt<W: fmt::Write>(&self, f: &mut fmt::Formatter<W>) -> fmt::Result {
-        write!(f, "{}: {}", self.path, self.why)
-    }
-}
-
-/// A file whose bytes from a place on were not read, and why.
-#[derive(Clone, Copy)]
-struct Unread<'a> {
-    path: &'a str,
-    at: u64,
-    why: &'a str,
-}
-
-impl fmt::Display for Unread<'_> {
-    fn fmt<W: fmt::Write>(&self, f: &mut fmt::Formatter<W>) -> fmt::Result {
-        write!(f, "{}: at byte {}: {}", self.path, self.at, self.why)
+        match *self {
+            Remark::Refused(path, why) => write!(f, "{path}: {why}"),
+            Remark::Unread(path, at, why) => write!(f, "{path}: at byte {at}: {why}"),
+            Remark::Replaced(path, len) => write!(f, "{path}: a file of {len} bytes was replaced"),
+            Remark::LostRights(path, mode) => {
+                let may = match mode >> 4 & 3 {
+                    0 => "neither read nor write it",
+                    1 => "write it",
+                    2 => "read it",
+                    _ => "read and write it",
+                };
+                write!(
+                    f,
+                    "{path}: an access list or attributes of the old file are lost; the group may {may}"
+                )
+            }
+        }
     }
 }
 

@@ -20,10 +20,7 @@ pub struct PlacedEntry {
 /// # Errors
 ///
 /// There is no memory for them.
-pub fn placed_entries(
-    alloc: Global,
-    bytes: &[u8],
-) -> Result<Option<Vec<PlacedEntry>>, AllocError>
+pub fn placed_entries(alloc: Global, bytes: &[u8]) -> Result<Option<Vec<PlacedEntry>>, AllocError>
     ensures { IfOk result (AreEntriesOf bytes.now) }
 {
     let mut entries = Vec::new(alloc);

@@ -49,7 +49,7 @@ planned_for change bytes blocks (Some old) p are is =
 -- what is confirmed is read again
 kept : (b : Bool) (slots now : List (List ℕ))
     → (let r : Result (List (List ℕ)) MemberRefusal = if b then Ok slots else Err refusal.Unconfirmed in r) ≡ Ok now
-        → (b ≡ true) × (slots ≡ now)
+    → (b ≡ true) × (slots ≡ now)
 kept true slots now is = (refl, cc)
 kept false slots now is = cc
 

@@ -42,4 +42,4 @@ module _ (track i : ℕ) (rs : List Record) (all found : List BlockPlace) where
   pub none : length rs ≤ i → all ≡ found ++ places_from track i (drop i rs) → found ≡ all
   none past is =
       sym (is ∙ ap (λ (l : List BlockPlace). found ++ l) (at_drop_all (places_from track i) rs i past ∙ no_record_left track i)
-          ∙ append-nil found)
+      ∙ append-nil found)

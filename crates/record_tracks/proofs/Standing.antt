@@ -76,7 +76,7 @@ module _ (model : DriveModel) (areas : List Areas) where
           let e : suc later + d ≡ track = omega arith in
           let same = ap (λ (i : ℕ). length (left_behind model areas i)) e in
           let next = ap length (one_behind model areas later)
-              ∙ length-drop (fitting_on model (left_behind model areas later)) (left_behind model areas later) in
+          ∙ length-drop (fitting_on model (left_behind model areas later)) (left_behind model areas later) in
           let fits = (fits_on model 0 (left_behind model areas track)).within in
           absurd (omega (arith, left_shrinks model areas (suc later) d, left_long k track number s, left_long j later its_number r))
 

@@ -7,7 +7,7 @@ use Rattle.dasd_jobs.specs.Sources.{SourceFile}
 use Rattle.dasd_jobs.specs.Written.{Replaced}
 use Rattle.dasd_run.specs.declared.commands.Ending.TheVariants.{Done}
 use Rattle.dasd_run.specs.Built.{OpensVolumes, NotBuilt}
-use Rattle.dasd_run.specs.Faults.{keeps_files}
+use Rattle.program_faults.specs.Faults.{keeps_files}
 use Rattle.dasd_run.specs.Decks.{deck_path, ReadsDeck}
 use Rattle.dasd_run.specs.Saves.{Ends}
 use Rattle.dasd_run.proofs.Told.{stays_seen, kept_if_told}

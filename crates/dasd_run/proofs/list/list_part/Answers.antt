@@ -7,7 +7,7 @@ use Rattle.dasd_run.specs.Paths.{quoted_paths}
 use Rattle.dasd_run.specs.Printed.{style_of, paths_of, asked_list, HasCylinders, PrintsPart, TakesMemoryFirst}
 use Rattle.dasd_run.specs.Reaches.{with_reach}
 use Rattle.dasd_run.specs.declared.commands.Ending.{Ending}
-use Rattle.dasd_run.specs.declared.fault.ProgramFault.{ProgramFault}
+use Rattle.program_faults.specs.declared.fault.ProgramFault.{ProgramFault}
 use Rattle.dasd_run.proofs.list.list_part.Goals as goal
 
 pub returns-clause-lists : goal.returns-clause-lists

@@ -2,7 +2,7 @@ use Rattle.std.proofs.Common.{◌≡◌, ◌∙◌, ◌⊎◌, inl, inr, ap, ref
 use Rattle.std.proofs.lemmas.Result.{err_from_is_err_and}
 use Rattle.dasd_jobs.specs.declared.faults.JobFault.{JobFault}
 use Rattle.dasd_jobs.specs.declared.faults.JobFault.TheVariants.{Read, OutOfMemory}
-use Rattle.dasd_run.specs.declared.fault.ProgramFault.TheVariants as fault
+use Rattle.program_faults.specs.declared.fault.ProgramFault.TheVariants as fault
 use Rattle.dasd_run.proofs.strict.check_strictly.Goals as goal
 
 told : (f : JobFault) → (f ≡ Read) ⊎ (f ≡ OutOfMemory) → (fault.Job f ≡ fault.Job Read) ⊎ (fault.Job f ≡ fault.Job OutOfMemory)

@@ -8,8 +8,8 @@ use Rattle.s360_assembler.specs.Assembled.{assembled}
 use Rattle.s360_assembler.specs.declared.fault.AssemblyFault.{AssemblyFault}
 use Rattle.s360_assembler.specs.declared.fault.AssemblyFault.TheVariants as assembly
 use Rattle.s360_assembler.specs.declared.files.LoadableFile.{LoadableFile}
-use Rattle.dasd_run.specs.declared.fault.ProgramFault.{ProgramFault}
-use Rattle.dasd_run.specs.declared.fault.ProgramFault.TheVariants as fault
+use Rattle.program_faults.specs.declared.fault.ProgramFault.{ProgramFault}
+use Rattle.program_faults.specs.declared.fault.ProgramFault.TheVariants as fault
 use Rattle.dasd_run.specs.Loads.{NotLoaded}
 use Rattle.dasd_run.specs.Words.{NotAssembled, TellsNotLoaded, MakesDeck, AssemblesText}
 use Rattle.dasd_run.proofs.words.print_deck.Goals as goal

@@ -27,7 +27,8 @@ returns c =
       same = c.put_set.ensures.same;
       loaded = IfOk-weaker c.put_set.result (λ n. IsPut v set before n now) (λ n. Loaded set g before n now)
           (λ n. loaded g before v says nothing set n now) c.put_set.ensures.put;
-      fault = IfErr-weaker c.put_set.result (λ f. IsNotPut f v set before) (λ f. IsNotLoaded f set g before) (not_put g before v says nothing set)
+      fault = IfErr-weaker c.put_set.result (λ f. IsNotPut f v set before) (λ f. IsNotLoaded f set g before)
+          (not_put g before v says nothing set)
           c.put_set.ensures.fault;
     }
 

@@ -7,7 +7,7 @@ use Rattle.volume_findings.proofs.lines.write_findings.Goals as goal
 pub loop-finding-preserved : goal.loop-finding-preserved
 loop-finding-preserved g c =
     one_more_text _ _ _ (data_text (option_copied c.args.json)) [] c.args.findings.now c.loop-finding.finding-index _ (search
-        (rules, tests))
+    (rules, tests))
     c.loop-finding.invariant c.in_ok-write_finding.ensures
 
 pub returns : goal.returns

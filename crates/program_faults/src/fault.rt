@@ -1,14 +1,16 @@
 //! Why `dasd` did not do what it was asked.
 
 ghost use Rattle.std.specs.Prelude.{◌≡◌};
-ghost use Rattle.dasd_run.specs.Faults.{volume_fault};
+ghost use Rattle.program_faults.specs.Faults.{volume_fault};
 
+use changed_libraries::MemberFault;
 use changed_volumes::{ChangeFault, FormatFault};
 use dasd_jobs::JobFault;
 use dasd_unload::UnloadFault;
 use dasd_volumes::VolumeFault;
 use loaded_folders::{FolderFault, FolderRefusal, NewMemberFault, NewMemberRefusal};
 use loaded_sets::{LoadFault, LoadRefusal};
+use member_changes::MemberRefusal;
 use new_labels::TableFault;
 use s360_assembler::AssemblyFault;
 use s360_deck::RunFault;
@@ -69,6 +71,9 @@ pub enum ProgramFault {
     /// A library does not get a member as it was asked, and its volume stays as it was.
     #[error(transparent)]
     Member(NewMemberRefusal),
+    /// A member of a library is not changed as it was asked, and its volume stays as it was.
+    #[error(transparent)]
+    Entry(MemberRefusal),
     /// The file of a trace can't be opened.
     #[error("trace file not opened")]
     TraceNotOpened,
@@ -100,7 +105,7 @@ pub enum ProgramFault {
 
 impl ProgramFault {
     ghost use Rattle.std.specs.Prelude.{◌≡◌};
-    ghost use Rattle.dasd_run.specs.Faults.{status_of};
+    ghost use Rattle.program_faults.specs.Faults.{status_of};
 
     /// The status that the program ends with: 2 for words that are wrong or ask for help, and else 1.
     pub fn status(&self) -> u8
@@ -115,7 +120,7 @@ impl ProgramFault {
 
 impl From<AllocError> for ProgramFault {
     ghost use Rattle.std.specs.Prelude.{◌≡◌};
-    ghost use Rattle.dasd_run.specs.declared.fault.ProgramFault.TheVariants.{OutOfMemory};
+    ghost use Rattle.program_faults.specs.declared.fault.ProgramFault.TheVariants.{OutOfMemory};
 
     ghost from_gives = { λ _ e. e ≡ OutOfMemory };
 
@@ -126,7 +131,7 @@ impl From<AllocError> for ProgramFault {
 
 impl From<JobFault> for ProgramFault {
     ghost use Rattle.std.specs.Prelude.{◌≡◌};
-    ghost use Rattle.dasd_run.specs.declared.fault.ProgramFault.TheVariants.{Job};
+    ghost use Rattle.program_faults.specs.declared.fault.ProgramFault.TheVariants.{Job};
 
     ghost from_gives = { λ f e. e ≡ Job f };
 
@@ -137,7 +142,7 @@ impl From<JobFault> for ProgramFault {
 
 impl From<RunFault> for ProgramFault {
     ghost use Rattle.std.specs.Prelude.{◌≡◌};
-    ghost use Rattle.dasd_run.specs.declared.fault.ProgramFault.TheVariants.{Run};
+    ghost use Rattle.program_faults.specs.declared.fault.ProgramFault.TheVariants.{Run};
 
     ghost from_gives = { λ f e. e ≡ Run f };
 
@@ -148,7 +153,7 @@ impl From<RunFault> for ProgramFault {
 
 impl From<UnloadFault> for ProgramFault {
     ghost use Rattle.std.specs.Prelude.{◌≡◌};
-    ghost use Rattle.dasd_run.specs.declared.fault.ProgramFault.TheVariants.{Unload};
+    ghost use Rattle.program_faults.specs.declared.fault.ProgramFault.TheVariants.{Unload};
 
     ghost from_gives = { λ f e. e ≡ Unload f };
 
@@ -160,7 +165,7 @@ impl From<UnloadFault> for ProgramFault {
 // The fault of a volume that is printed: a slot that can't be read is a file that can't be.
 impl From<VolumeFault> for ProgramFault {
     ghost use Rattle.std.specs.Prelude.{◌≡◌};
-    ghost use Rattle.dasd_run.specs.Faults.{printing_fault};
+    ghost use Rattle.program_faults.specs.Faults.{printing_fault};
 
     ghost from_gives = { λ f e. e ≡ printing_fault f };
 
@@ -175,7 +180,7 @@ impl From<VolumeFault> for ProgramFault {
 
 impl From<MemberListFault> for ProgramFault {
     ghost use Rattle.std.specs.Prelude.{◌≡◌};
-    ghost use Rattle.dasd_run.specs.Faults.{library_fault};
+    ghost use Rattle.program_faults.specs.Faults.{library_fault};
 
     ghost from_gives = { λ f e. e ≡ library_fault f };
 
@@ -192,7 +197,7 @@ impl From<MemberListFault> for ProgramFault {
 
 impl From<FormatFault> for ProgramFault {
     ghost use Rattle.std.specs.Prelude.{◌≡◌};
-    ghost use Rattle.dasd_run.specs.Faults.{format_fault};
+    ghost use Rattle.program_faults.specs.Faults.{format_fault};
 
     ghost from_gives = { λ f e. e ≡ format_fault f };
 
@@ -206,7 +211,7 @@ impl From<FormatFault> for ProgramFault {
 
 impl From<ChangeFault> for ProgramFault {
     ghost use Rattle.std.specs.Prelude.{◌≡◌};
-    ghost use Rattle.dasd_run.specs.Faults.{change_fault};
+    ghost use Rattle.program_faults.specs.Faults.{change_fault};
 
     ghost from_gives = { λ f e. e ≡ change_fault f };
 
@@ -221,7 +226,7 @@ impl From<ChangeFault> for ProgramFault {
 
 impl From<LoadFault> for ProgramFault {
     ghost use Rattle.std.specs.Prelude.{◌≡◌};
-    ghost use Rattle.dasd_run.specs.Faults.{load_fault};
+    ghost use Rattle.program_faults.specs.Faults.{load_fault};
 
     ghost from_gives = { λ f e. e ≡ load_fault f };
 
@@ -236,7 +241,7 @@ impl From<LoadFault> for ProgramFault {
 
 impl From<FolderFault> for ProgramFault {
     ghost use Rattle.std.specs.Prelude.{◌≡◌};
-    ghost use Rattle.dasd_run.specs.Faults.{folder_fault};
+    ghost use Rattle.program_faults.specs.Faults.{folder_fault};
 
     ghost from_gives = { λ f e. e ≡ folder_fault f };
 
@@ -251,7 +256,7 @@ impl From<FolderFault> for ProgramFault {
 
 impl From<NewMemberFault> for ProgramFault {
     ghost use Rattle.std.specs.Prelude.{◌≡◌};
-    ghost use Rattle.dasd_run.specs.Faults.{add_fault};
+    ghost use Rattle.program_faults.specs.Faults.{add_fault};
 
     ghost from_gives = { λ f e. e ≡ add_fault f };
 
@@ -264,8 +269,23 @@ impl From<NewMemberFault> for ProgramFault {
     }
 }
 
+impl From<MemberFault> for ProgramFault {
+    ghost use Rattle.std.specs.Prelude.{◌≡◌};
+    ghost use Rattle.program_faults.specs.Faults.{member_fault};
+
+    ghost from_gives = { λ f e. e ≡ member_fault f };
+
+    fn from(fault: MemberFault) -> ProgramFault {
+        match fault {
+            ChangeFault::Refused(refusal) => ProgramFault::Entry(refusal),
+            ChangeFault::Job(fault) => ProgramFault::Job(fault),
+            ChangeFault::Save(fault) => ProgramFault::Save(fault),
+        }
+    }
+}
+
 /// What the fault of a volume that is not opened is to the program. A file that is named for an address again is not told to be in use.
-pub(crate) fn of_volume(fault: JobFault, is_taken: bool) -> ProgramFault
+pub fn of_volume(fault: JobFault, is_taken: bool) -> ProgramFault
     ensures { result ≡ volume_fault fault is_taken }
 {
     match (fault, is_taken) {

@@ -16,11 +16,12 @@ use Rattle.changed_volumes.specs.declared.fault.ChangeFault.{ChangeFault}
 use Rattle.changed_volumes.specs.declared.fault.ChangeFault.TheVariants as change
 use Rattle.loaded_sets.specs.Faults.{LoadFault}
 use Rattle.loaded_folders.specs.Faults.{FolderFault, NewMemberFault}
+use Rattle.member_changes.specs.declared.refusal.MemberRefusal.{MemberRefusal}
 use Rattle.volume_changes.specs.declared.refusal.ChangeRefusal.{ChangeRefusal}
 use Rattle.volume_details.specs.declared.fault.MemberListFault.{MemberListFault}
 use Rattle.volume_details.specs.declared.fault.MemberListFault.TheVariants as library
-use Rattle.dasd_run.specs.declared.fault.ProgramFault.{ProgramFault}
-use Rattle.dasd_run.specs.declared.fault.ProgramFault.TheVariants as fault
+use Rattle.program_faults.specs.declared.fault.ProgramFault.{ProgramFault}
+use Rattle.program_faults.specs.declared.fault.ProgramFault.TheVariants as fault
 
 -- a deck was not run
 abbrev pub is_not_run : RunFault → Bool
@@ -61,6 +62,7 @@ keeps_files (fault.Change _) = true
 keeps_files (fault.Load _) = true
 keeps_files (fault.Folder _) = true
 keeps_files (fault.Member _) = true
+keeps_files (fault.Entry _) = true
 keeps_files fault.TraceNotOpened = true
 keeps_files fault.TraceInUse = true
 keeps_files (fault.Run f) = is_not_run f
@@ -90,6 +92,7 @@ status_of (fault.Change _) = 1
 status_of (fault.Load _) = 1
 status_of (fault.Folder _) = 1
 status_of (fault.Member _) = 1
+status_of (fault.Entry _) = 1
 status_of fault.TraceNotOpened = 1
 status_of fault.TraceInUse = 1
 status_of fault.TraceWrite = 1
@@ -147,6 +150,12 @@ abbrev pub add_fault : NewMemberFault → ProgramFault
 add_fault (change.Refused refusal) = fault.Member refusal
 add_fault (change.Job f) = fault.Job f
 add_fault (change.Save f) = fault.Save f
+
+-- that of a member of a library that is changed
+abbrev pub member_fault : ChangeFault MemberRefusal → ProgramFault
+member_fault (change.Refused refusal) = fault.Entry refusal
+member_fault (change.Job f) = fault.Job f
+member_fault (change.Save f) = fault.Save f
 
 -- that of a library whose members are listed
 abbrev pub library_fault : MemberListFault → ProgramFault
