@@ -96,21 +96,21 @@ complete -c dasd -n '__fish_seen_subcommand_from load' -l record-format -x -d 't
 complete -c dasd -n '__fish_seen_subcommand_from load' -l record-length -x -d 'the length of records in bytes; FB and FBS need it'
 complete -c dasd -n '__fish_seen_subcommand_from load' -l block-length -x -d 'the length of blocks in bytes, of which the last may be shorter; of V, VB, VS and VBS, and with --with-lengths, that of the longest'
 complete -c dasd -n '__fish_seen_subcommand_from load' -l key-length -x -d 'with --with-lengths, the length of keys in bytes'
-complete -c dasd -n '__fish_seen_subcommand_from load' -l replace -d 'replaces each changed image by a new file instead of overwriting it'
+complete -c dasd -n '__fish_seen_subcommand_from load' -l replace -d 'replaces each changed image by a new file, without its access list, instead of overwriting it'
 complete -c dasd -n '__fish_seen_subcommand_from load' -l verbose -d 'gives more detail of a fault, even if standard error is not a terminal'
 complete -c dasd -n '__fish_seen_subcommand_from load' -s h -l help -d 'Print help'
 complete -c dasd -n '__fish_seen_subcommand_from load' -F
-complete -c dasd -n '__fish_seen_subcommand_from rename' -l replace -d 'replaces each changed image by a new file instead of overwriting it'
+complete -c dasd -n '__fish_seen_subcommand_from rename' -l replace -d 'replaces each changed image by a new file, without its access list, instead of overwriting it'
 complete -c dasd -n '__fish_seen_subcommand_from rename' -l verbose -d 'gives more detail of a fault, even if standard error is not a terminal'
 complete -c dasd -n '__fish_seen_subcommand_from rename' -s h -l help -d 'Print help'
 complete -c dasd -n '__fish_seen_subcommand_from rename' -F
-complete -c dasd -n '__fish_seen_subcommand_from delete' -l replace -d 'replaces each changed image by a new file instead of overwriting it'
+complete -c dasd -n '__fish_seen_subcommand_from delete' -l replace -d 'replaces each changed image by a new file, without its access list, instead of overwriting it'
 complete -c dasd -n '__fish_seen_subcommand_from delete' -l verbose -d 'gives more detail of a fault, even if standard error is not a terminal'
 complete -c dasd -n '__fish_seen_subcommand_from delete' -s h -l help -d 'Print help'
 complete -c dasd -n '__fish_seen_subcommand_from delete' -F
 complete -c dasd -n '__fish_seen_subcommand_from relabel' -l label -x -d 'the serial number in the volume label, and in those of the data sets that began on the volume'
 complete -c dasd -n '__fish_seen_subcommand_from relabel' -l owner -x -d 'the owner\'s name in the volume label'
-complete -c dasd -n '__fish_seen_subcommand_from relabel' -l replace -d 'replaces each changed image by a new file instead of overwriting it'
+complete -c dasd -n '__fish_seen_subcommand_from relabel' -l replace -d 'replaces each changed image by a new file, without its access list, instead of overwriting it'
 complete -c dasd -n '__fish_seen_subcommand_from relabel' -l verbose -d 'gives more detail of a fault, even if standard error is not a terminal'
 complete -c dasd -n '__fish_seen_subcommand_from relabel' -s h -l help -d 'Print help'
 complete -c dasd -n '__fish_seen_subcommand_from relabel' -F
