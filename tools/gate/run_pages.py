@@ -135,10 +135,11 @@ class Reader:
         self.environment = {**found, **python, "PKG_CONFIG_PATH": str(put_library(room))}
 
     def prepare(self, page: str) -> None:
-        """The files that a help names, since a help can't make them: a pack with a data set, two of which one was changed, a deck, and a text."""
+        """The files that a help names, since a help can't make them: a pack with two data sets, two of which one was changed, a deck, and a text."""
         if page == HELP:
-            words = ["dasd", "rename", "pack.ckd", "SAMPLE.JOBS", "PAYROLL"]
-            subprocess.run(words, cwd=self.folder, env=self.environment, stdout=subprocess.DEVNULL, check=True)
+            for names in (["SAMPLE.JOBS", "PAYROLL"], ["SAMPLE.NOTES", "PAYROLL.OLD"]):
+                words = ["dasd", "rename", "pack.ckd", *names]
+                subprocess.run(words, cwd=self.folder, env=self.environment, stdout=subprocess.DEVNULL, check=True)
             for name in ("monday.ckd", "tuesday.ckd"):
                 shutil.copy(self.folder / "pack.ckd", self.folder / name)
             shutil.copy(TOP / "sample/decks/three-records.deck", self.folder / "deck.txt")
