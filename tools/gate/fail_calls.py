@@ -77,6 +77,10 @@ class Command:
         """Whether it writes volumes in place, or takes up a save."""
         return self.words[0] in ("run", *CHANGES) and "--replace" not in self.words or self.words[0] in ("format", "recover")
 
+    def reports(self) -> bool:
+        """Whether it has something to report where nothing fails: a save that had begun, or a file that another one replaces."""
+        return bool(self.begun) or "--replace" in self.words or self.words[:2] == ["format", "one.ckd"]
+
     def read_faults(self) -> tuple[str, ...]:
         """What a fault of a read is called."""
         return READ_FAULTS + SAVE_FAULTS if self.saves() else READ_FAULTS
@@ -447,7 +451,7 @@ def try_command(dasd: Path, command: Command, pool: ThreadPoolExecutor) -> tuple
     old = old_files(dasd, command.begun)
     good, lines = traced(dasd, command)
     wrong = [f"{command.name}: {it}" for it in unsynced(lines)]
-    if good.status or bool(good.told) != bool(command.begun):  # it reports what it did with a save that had begun
+    if good.status or bool(good.told) != command.reports():
         return 0, [f"{command.name}: status {good.status} where nothing fails: {good.told!r}"]
     failures = failures_of(lines, command.signals())
 
