@@ -4,10 +4,13 @@ use Rattle.counted_io.specs.Streams.{Stream, Takes, TakesFront, NoneFailed, OneF
 use Rattle.ckd_track.specs.declared.model.DriveModel.{DriveModel}
 use Rattle.ckd_track.specs.Geometry.{new_geometry}
 use Rattle.ckd_image.specs.Image.{new_file}
+use Rattle.ckd_image.specs.Layout.{image_length}
 use Rattle.dasd_jobs.specs.Lines.{formatted_line}
 use Rattle.dasd_jobs.specs.declared.faults.JobFault.{JobFault}
 use Rattle.dasd_jobs.specs.declared.faults.JobFault.TheVariants.{Write}
 use Rattle.dasd_jobs.specs.declared.files.NewFile.{NewFile}
+use Rattle.dasd_jobs.specs.declared.files.SavePlan.{SavePlan}
+use Rattle.dasd_jobs.specs.declared.files.SavePlan.TheVariants.{SameLength}
 
 -- a file that was made, or replaced whole: its path and all its bytes
 pub record Replaced : Type 0 where
@@ -25,6 +28,10 @@ files_of content new = map (λ f. record { path = f.path.now; bytes = content f.
 -- the files with that of a new volume behind them
 abbrev pub with_new : List Replaced → (path : List ℕ) → DriveModel → (cylinders : ℕ) → List Replaced
 with_new before path model cylinders = with_file before path (new_file (new_geometry model cylinders))
+
+-- how a new volume is put at its path: a file that is as long stays the file that it is, and a new one takes the place of each other
+abbrev pub format_plan : DriveModel → (cylinders : ℕ) → SavePlan
+format_plan model cylinders = SameLength (image_length (new_geometry model cylinders))
 
 -- the new image of a volume was put at its path, or nothing was
 abbrev pub WritesNew : {A : Type 0} → Result A JobFault → (path : List ℕ) → DriveModel → (cylinders : ℕ) → (before now : List Replaced) → Type 0

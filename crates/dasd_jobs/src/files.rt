@@ -38,6 +38,8 @@ pub enum SavePlan {
     Replaced,
     /// Each stays the file that it is, with its owner, its rights and its other names, and holds other bytes.
     InPlace,
+    /// One of so many bytes stays the file that it is, in the same way; a new file takes the place of each other.
+    SameLength(u64),
 }
 
 /// A file that was opened, and is read in parts.

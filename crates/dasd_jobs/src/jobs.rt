@@ -10,13 +10,13 @@ ghost use Rattle.dasd_volumes.specs.Checks.{check_text, NumberIn};
 ghost use Rattle.dasd_volumes.specs.Listing.{volume_text};
 ghost use Rattle.dasd_jobs.specs.Printed.{CountsLines, PrintsFiles};
 ghost use Rattle.dasd_jobs.specs.Sources.{OfVolume};
-ghost use Rattle.dasd_jobs.specs.Written.{WritesNew, Formats};
+ghost use Rattle.dasd_jobs.specs.Written.{format_plan, WritesNew, Formats};
 
 use crate::faults::{JobFault, of_write};
-use crate::files::ImageFiles;
+use crate::files::{ImageFiles, SavePlan};
 use crate::opened::open_volume;
 use arrayvec::ArrayString;
-use ckd_image::{ImageStore, StoreFault, write_new_volume};
+use ckd_image::{ImageStore, StoreFault, image_len, write_new_volume};
 use ckd_track::{DriveModel, Geometry};
 use counted_io::{Counted, WriteFault, put_decimal, write_flushed};
 use dasd_volumes::{Progress, Stage, VolumeFault, is_large};
@@ -101,15 +101,19 @@ fn write_shown<F: ImageFiles, P: Progress>(
     if shows {
         progress.show(Stage::Formatting(volume.cylinders));
     }
-    let draft = begin_new(alloc, files, volume)?;
+    let draft = begin_volume(alloc, files, volume)?;
     if shows {
         progress.show(Stage::Writing(volume.cylinders));
     }
     write_new(files, draft, volume)
 }
 
-// Begins the file of a new image.
-fn begin_new<F: ImageFiles>(
+/// Begins the file of a new volume for its path. A file there that is as long stays the file that it is.
+///
+/// # Errors
+///
+/// As of `ImageFiles::begin`; nothing is written.
+pub fn begin_volume<F: ImageFiles>(
     alloc: Global,
     files: &mut F,
     volume: NewVolume,
@@ -117,10 +121,18 @@ fn begin_new<F: ImageFiles>(
     ensures kept { F.written files.new ≡ F.written files.old }
     ensures empty { IfOk result (λ draft. F.Draft.content draft ≡ []) }
 {
+    files.plan_saving(format_plan(volume.model, volume.cylinders));
     match files.begin(alloc, volume.path, volume.replaces) {
         Ok(draft) => Ok(draft),
         Err(fault) => Err(of_write(fault)),
     }
+}
+
+// How a new volume is put at its path.
+fn format_plan(model: DriveModel, cylinders: u16) -> SavePlan
+    ensures { result ≡ format_plan model cylinders }
+{
+    SavePlan::SameLength(image_len(model, cylinders))
 }
 
 // Writes a new image into a file that was begun, and puts that into its place.

@@ -20,7 +20,9 @@ mod written;
 pub use crate::faults::{JobFault, of_write};
 pub use crate::files::{FileFault, ImageFiles, NewFile, OpenedFile, SavePlan};
 pub use crate::headers::is_header;
-pub use crate::jobs::{NewVolume, check_files, format_file, list_files, write_formatted};
+pub use crate::jobs::{
+    NewVolume, begin_volume, check_files, format_file, list_files, write_formatted,
+};
 pub use crate::journals::{Journals, recover_files};
 pub use crate::lengths::Reach;
 pub use crate::mounting::{begin_changed, new_image, read_image, write_back};
