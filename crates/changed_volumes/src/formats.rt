@@ -1,6 +1,6 @@
 //! The format of a volume with a label.
 
-ghost use Rattle.std.specs.Prelude.{◌≡◌, [], false, IfOk, OnOk};
+ghost use Rattle.std.specs.Prelude.{◌≡◌, [], false, OnOk};
 ghost use Rattle.counted_io.specs.Streams.{seen_by, IsFlushed};
 ghost use Rattle.ckd_track.specs.Geometry.{new_geometry};
 ghost use Rattle.dasd_jobs.specs.Lines.{formatted_line};
@@ -11,7 +11,9 @@ ghost use Rattle.changed_volumes.specs.Formats.{FormatsLabelled, WritesLabelled}
 use crate::labelled_writes::write_labelled;
 use ckd_track::{DriveModel, Geometry};
 use counted_io::{Counted, WriteFault};
-use dasd_jobs::{ImageFiles, JobFault, NewVolume, Progress, Stage, of_write, write_formatted};
+use dasd_jobs::{
+    ImageFiles, JobFault, NewVolume, Progress, Stage, begin_volume, of_write, write_formatted,
+};
 use dasd_volumes::is_large;
 use new_labels::{NewLabel, TableFault, table_fault};
 use std::alloc::Global;
@@ -80,8 +82,10 @@ pub fn format_labelled<F: ImageFiles, W: Write, P: Progress>(
 
 // The same volume, as one without a label.
 fn without_label<'a>(volume: &LabelledVolume<'a>) -> NewVolume<'a>
+    ensures path { result.path ≡ volume.now.path }
     ensures model { result.model ≡ volume.now.model }
     ensures cylinders { result.cylinders ≡ volume.now.cylinders }
+    ensures replaces { result.replaces ≡ volume.now.replaces }
 {
     NewVolume {
         path: volume.path,
@@ -106,26 +110,11 @@ fn write_shown<F: ImageFiles, P: Progress>(
     if shows {
         progress.show(Stage::Formatting(volume.cylinders));
     }
-    let draft = begin_new(alloc, files, volume)?;
+    let draft = begin_volume(alloc, files, without_label(volume))?;
     if shows {
         progress.show(Stage::Writing(volume.cylinders));
     }
     write_new(files, draft, volume)
-}
-
-// Begins the file of a new image.
-fn begin_new<F: ImageFiles>(
-    alloc: Global,
-    files: &mut F,
-    volume: &LabelledVolume,
-) -> Result<F::Draft, JobFault>
-    ensures kept { F.written files.new ≡ F.written files.old }
-    ensures empty { IfOk result (λ draft. F.Draft.content draft ≡ []) }
-{
-    match files.begin(alloc, volume.path, volume.replaces) {
-        Ok(draft) => Ok(draft),
-        Err(fault) => Err(of_write(fault)),
-    }
 }
 
 // Writes a new image into a file that was begun, and puts that into its place.
