@@ -240,7 +240,7 @@ pub(crate) fn put_drafts<'p>(
     }
 }
 
-// Writes over the old files.
+// Writes over the old files. Everybody is told whose bytes were replaced that nobody had read.
 fn save_in_place<'p>(
     remarks: &Remarks,
     new: &[NewFile<'p, HostDraft>],
@@ -258,7 +258,19 @@ fn save_in_place<'p>(
             return Err((it.path, SaveFault::Kept(fault)));
         }
     }
-    match save_files(remarks, &mut parts) {
+    let saved = save_files(remarks, &mut parts);
+    if let Ok(()) | Err((_, SaveFault::Saved(_))) = &saved {
+        for it in new {
+            match &it.draft.old {
+                Some(old) if old.is_unread => {
+                    let len = old.known.len();
+                    remarks.tell(&Remark::Replaced(it.path, len));
+                }
+                _ => {}
+            }
+        }
+    }
+    match saved {
         Ok(()) => Ok(()),
         Err((place, fault)) => Err((new.get(place).map_or("", |it| it.path), fault)),
     }

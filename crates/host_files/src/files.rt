@@ -1,6 +1,6 @@
 //! Files of the host.
 
-ghost use Rattle.std.specs.Prelude.{◌≡◌, ◌≢◌, ◌↔◌, [], ◌++◌, IsTrue, IfOk, IfErr, OnOk, OnErr};
+ghost use Rattle.std.specs.Prelude.{◌≡◌, ◌≢◌, ◌↔◌, true, false, Ok, [], ◌++◌, IsTrue, IfOk, IfErr, OnOk, OnErr};
 ghost use Rattle.dasd_jobs.specs.Written.{files_of};
 
 use crate::drafts::{HostDraft, Old, note_folder, put_drafts, sync_folders};
@@ -12,9 +12,9 @@ use crate::remarks::Remarks;
 use crate::traces::{TraceFile, TraceSink};
 use dasd_jobs::{FileFault, ImageFiles, Journals, NewFile, SavePlan, Sources, Traces, Written};
 use file_journals::{SaveFault, recover_file, whole_file};
-use file_places::{Notes, Told, beside, clear_folder, folder_of, is_free, wrong};
+use file_places::{Notes, Told, beside, clear_folder, folder_of, home_of, is_free, wrong};
 use std::alloc::Global;
-use std::fs::File;
+use std::fs::{self, File};
 use std::io::{BufWriter, ErrorKind};
 use std::path::Path;
 use std::{fmt, io};
@@ -113,11 +113,24 @@ impl<'a> HostFiles<'a> {
         !matches!(self.plan, SavePlan::Nothing)
     }
 
-    // Whether they keep their places.
-    fn writes_over(&self) -> bool
-        ensures { IsTrue result ↔ (self.now.plan ≡ SavePlan.InPlace) }
+    // Whether the file at this path keeps its place, if it is written: that needs room in its name for that of a journal, where its length
+    // alone decides.
+    fn writes_over(&self, path: &str) -> io::Result<bool>
+        ensures in_place { self.now.plan ≡ SavePlan.InPlace → result ≡ Ok true }
+        ensures by_new { self.now.plan ≡ SavePlan.Replaced → result ≡ Ok false }
+        ensures none { self.now.plan ≡ SavePlan.Nothing → result ≡ Ok false }
     {
-        matches!(self.plan, SavePlan::InPlace)
+        let SavePlan::SameLength(len) = self.plan else {
+            return Ok(matches!(self.plan, SavePlan::InPlace));
+        };
+        match fs::metadata(self.host, path) {
+            Ok(known) if known.is_file() && known.len() == len => {
+                let home = home_of(self.host, path)?;
+                Ok(beside(self.host, home.as_path())?.is_some())
+            }
+            Err(fault) if fault.kind() != ErrorKind::NotFound => Err(fault),
+            _ => Ok(false),
+        }
     }
 
     // Says before a deck is run why what it changes of a file could not be saved, if somebody is to hear it.
@@ -127,7 +140,11 @@ impl<'a> HostFiles<'a> {
         if !self.saves() || !self.tells() {
             return Ok(());
         }
-        match try_to_write(self.remarks, path, self.writes_over()) {
+        let tried = match self.writes_over(path) {
+            Ok(in_place) => try_to_write(self.remarks, path, in_place),
+            Err(fault) => Err(fault),
+        };
+        match tried {
             Ok(()) => Ok(()),
             Err(fault) if fault.kind() == ErrorKind::OutOfMemory => Err(FileFault::OutOfMemory),
             Err(fault) => {
@@ -142,7 +159,7 @@ impl<'a> HostFiles<'a> {
         ensures written { self.new.written ≡ self.old.written }
         ensures opened { self.new.opened ≡ self.old.opened }
     {
-        let in_place = self.writes_over();
+        let in_place = replaces && self.writes_over(path)?;
         let old = find_old(self.remarks, &mut self.locked, path, replaces, in_place)?;
         // a save that can't be ended, since another file of it may not be written, or of a file that is gone
         let home = match &old {
