@@ -81,8 +81,8 @@ class Refused:
         return (ran.returncode, self.files()) == (0, good.files)
 
     def is_untold(self, came: Came, good: Came) -> bool:
-        """Whether `recover` did all, and had no memory to tell it."""
-        return self.words[0] == "recover" and came == good._replace(told=b"")
+        """Whether `recover` or `format` did all, and had no memory to tell it."""
+        return good.told != b"" and self.words[0] in ("recover", "format") and came == good._replace(told=b"")
 
     def without_effect(self) -> int:
         """Refuses each taking; how often that changed nothing. Otherwise it has to be refused."""
