@@ -2,11 +2,12 @@
 
 ghost use Rattle.std.specs.Prelude.{◌≡◌, ◌++◌, [], length, Ok, Err, IfOk, IfErr, OnOk};
 ghost use Rattle.changed_volumes.specs.Changes.{IsSameImage, IsNotDone, IsHinderedBy};
+ghost use Rattle.changed_volumes.specs.Reading.{image_of};
 ghost use Rattle.member_changes.specs.Libraries.{directory_on};
 ghost use Rattle.member_changes.specs.Places.{places_of_track, places_up_to, block_written, all_written};
 
 use crate::fault::{MemberFault, NO_MEMORY, NO_SLOT};
-use changed_volumes::of_reading;
+use changed_volumes::{HeldVolume, of_reading};
 use ckd_image::Image;
 use counted_io::Counted;
 use dasd_extract::{directory_of, extract};
@@ -25,7 +26,7 @@ pub(crate) struct DirectoryBlocks {
     pub(crate) last: u32,
 }
 
-/// The directory of the library with these extents, read of a copy of an image.
+/// The directory of the library with these extents on the volume of an image.
 ///
 /// # Errors
 ///
@@ -38,23 +39,25 @@ pub(crate) fn read_directory(
     ensures read { IfOk result (λ d. directory_on extents.now image.now.geometry image.now.slots ≡ Ok (record { bytes = d.bytes.items; last = d.last })) }
     ensures refused { IfErr result (λ e. IsNotDone e (λ r. directory_on extents.now image.now.geometry image.now.slots ≡ Err r)) }
 {
-    match image.copy(alloc) {
-        Ok(mut copy) => read_copy(alloc, &mut copy, extents),
+    match HeldVolume::of(alloc, image) {
+        Ok(mut volume) => read_of(alloc, &mut volume, extents),
         Err(_) => Err(NO_MEMORY),
     }
 }
 
-// The same, read of an image that may be known less of afterwards.
-fn read_copy(
+// The same by a reader of the volume.
+fn read_of(
     alloc: Global,
-    copy: &mut Image<VolumeFile>,
+    volume: &mut HeldVolume,
     extents: &[Extent],
 ) -> Result<DirectoryBlocks, MemberFault>
-    ensures read { IfOk result (λ d. directory_on extents.now copy.old.geometry copy.old.slots ≡ Ok (record { bytes = d.bytes.items; last = d.last })) }
-    ensures refused { IfErr result (λ e. IsNotDone e (λ r. directory_on extents.now copy.old.geometry copy.old.slots ≡ Err r)) }
+    ensures read { IfOk result (λ d. directory_on extents.now (image_of volume.old).geometry (image_of volume.old).slots
+        ≡ Ok (record { bytes = d.bytes.items; last = d.last })) }
+    ensures refused { IfErr result (λ e. IsNotDone e (λ r. directory_on extents.now (image_of volume.old).geometry (image_of volume.old).slots
+        ≡ Err r)) }
 {
     let mut blocks = Counted::new(Vec::new(alloc));
-    let stop = match extract(alloc, copy, &mut blocks, directory_of(extents)) {
+    let stop = match extract(alloc, volume, &mut blocks, directory_of(extents)) {
         Ok(stop) => stop,
         Err(fault) => return Err(of_reading(fault)),
     };

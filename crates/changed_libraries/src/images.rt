@@ -29,7 +29,7 @@ pub struct MemberChange {
 }
 
 /// Changes a member of a library of the volume of an image in memory, in the blocks of the library's directory alone: these keep their places
-/// and their number, and every other record stays. The volume is read of copies.
+/// and their number, and every other record stays.
 ///
 /// # Errors
 ///

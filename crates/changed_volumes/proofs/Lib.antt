@@ -1,3 +1,4 @@
 mod Saved
 mod Slots
+mod OnlyFile
 pub mod Told

@@ -56,10 +56,8 @@ impl ImageChange for VolumeChange {
         image: &mut Image<VolumeFile>,
     ) -> Result<Geometry, ChangeFault> {
         let geometry = image.geometry();
-        match change_image(alloc, image, self) {
-            Ok(()) => Ok(geometry),
-            Err(fault) => Err(fault),
-        }
+        change_image(alloc, image, self)?;
+        Ok(geometry)
     }
 }
 

@@ -10,6 +10,7 @@ ghost use Rattle.changed_volumes.specs.Changes.{IsSameImage, IsRefused, IsHinder
 
 use crate::deletions::delete;
 use crate::fault::{ChangeFault, NO_MEMORY, NO_SLOT, of_reading};
+use crate::reading::HeldVolume;
 use ckd_image::{Image, StoreFault};
 use dasd_files::VolumeFile;
 use dasd_jobs::JobFault;
@@ -30,7 +31,7 @@ pub enum VolumeChange {
     Delete([u8; 44]),
 }
 
-/// Changes the volume of an image in memory, whose table of contents is read of a copy.
+/// Changes the volume of an image in memory.
 ///
 /// # Errors
 ///
@@ -57,7 +58,7 @@ pub fn change_image(
     }
 }
 
-/// What the volume of an image says of itself, which is read of a copy.
+/// What the volume of an image says of itself.
 ///
 /// # Errors
 ///
@@ -69,21 +70,10 @@ pub fn read_said<R: Drop>(
     ensures says { IfOk result (SaysOf (contents_of image.now.geometry image.now.slots)) }
     ensures fault { IfErr result IsHinderedBy }
 {
-    match image.copy(alloc) {
-        Ok(mut copy) => read_copy(alloc, &mut copy),
-        Err(_) => Err(ChangeFault::Job(JobFault::OutOfMemory)),
-    }
-}
-
-// The same of an image that may be known less of behind it.
-fn read_copy<R: Drop>(
-    alloc: Global,
-    copy: &mut Image<VolumeFile>,
-) -> Result<Contents, ChangeFault<R>>
-    ensures says { IfOk result (SaysOf (contents_of copy.old.geometry copy.old.slots)) }
-    ensures fault { IfErr result IsHinderedBy }
-{
-    match read_contents(alloc, copy) {
+    let Ok(mut volume) = HeldVolume::of(alloc, image) else {
+        return Err(ChangeFault::Job(JobFault::OutOfMemory));
+    };
+    match read_contents(alloc, &mut volume) {
         Ok(contents) => Ok(contents),
         Err(fault) => Err(of_reading(fault)),
     }

@@ -10,10 +10,12 @@ mod formats;
 mod images;
 mod labelled_writes;
 mod lines;
+mod reading;
 mod saves;
 
 pub use crate::changes::{ImageChange, change_files};
 pub use crate::fault::{ChangeFault, of_line, of_reading};
 pub use crate::formats::{FormatFault, LabelledVolume, format_labelled};
 pub use crate::images::{VolumeChange, change_image, read_said, write_change};
+pub use crate::reading::HeldVolume;
 pub use crate::saves::{ChangedVolume, NewName, delete_data_set, relabel_volume, rename_data_set};

@@ -102,10 +102,8 @@ pub fn relabel_volume<F: ImageFiles, W: Write>(
         }) }
     ensures flushed { OnOk result (IsFlushed (seen_by W.contents writer.new)) }
 {
-    match change_files(alloc, files, volume, &VolumeChange::Relabel(fields)) {
-        Ok(geometry) => of_line(write_relabelled(writer, geometry)),
-        Err(fault) => Err(fault),
-    }
+    let geometry = change_files(alloc, files, volume, &VolumeChange::Relabel(fields))?;
+    of_line(write_relabelled(writer, geometry))
 }
 
 /// Deletes a data set of the volume in files: its control blocks become free, and its tracks free again where the volume keeps its free tracks;

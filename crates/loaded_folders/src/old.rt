@@ -4,6 +4,7 @@ ghost use Rattle.std.specs.Prelude.{◌≡◌, ◌/◌, ◌≢◌, length, IfOk,
 ghost use Rattle.std.specs.List.{position};
 ghost use Rattle.dasd_volumes.specs.Reading.{IsRead};
 ghost use Rattle.volume_contents.specs.Sets.{has_name};
+ghost use Rattle.changed_volumes.specs.Reading.{image_of};
 ghost use Rattle.loaded_sets.specs.Volumes.{labelled};
 ghost use Rattle.loaded_folders.specs.Libraries.{form_in, kept_in, IsReadOf, IsOld, IsNotRead};
 ghost use Rattle.loaded_folders.specs.MemberParts.{IsLibrarySet, IsNoLibrary, CountsBlocks, IsNotReadIn};
@@ -12,7 +13,7 @@ use crate::added::OldLibrary;
 use crate::member_fault::{
     NO_MEMORY, NewMemberFault, NewMemberRefusal, of_placing, of_reading, refused,
 };
-use changed_volumes::{of_reading as of_volume, read_said};
+use changed_volumes::{HeldVolume, of_reading as of_volume, read_said};
 use ckd_image::Image;
 use ckd_track::Geometry;
 use counted_io::Counted;
@@ -44,7 +45,7 @@ fn form_in(block: &DataSetBlock) -> NewSetForm
     }
 }
 
-/// The library of a name on the volume of an image, read of a copy of it.
+/// The library of a name on the volume of an image.
 ///
 /// # Errors
 ///
@@ -71,7 +72,7 @@ pub(crate) fn read_old(
         Ok(set) => set,
         Err(fault) => return Err(fault),
     };
-    read_copy(alloc, image, &set)
+    read_held(alloc, image, &set)
 }
 
 /// The data set of a library.
@@ -114,8 +115,8 @@ fn library_set(
     Ok(LibrarySet { set, kept })
 }
 
-// A library, read of a copy of an image.
-fn read_copy(
+// A library on the volume of an image.
+fn read_held(
     alloc: Global,
     image: &Image<VolumeFile>,
     library: &LibrarySet,
@@ -124,27 +125,28 @@ fn read_copy(
         image.now.slots) }
     ensures fault { IfErr result (λ e. IsNotReadIn e library.now.set.extents.items image.now.geometry image.now.slots) }
 {
-    match image.copy(alloc) {
-        Ok(mut copy) => read_set(alloc, &mut copy, library),
+    match HeldVolume::of(alloc, image) {
+        Ok(mut volume) => read_set(alloc, &mut volume, library),
         Err(_) => Err(NO_MEMORY),
     }
 }
 
-// A library, read of an image that may be known less of behind it.
+// The same by a reader of the volume.
 fn read_set(
     alloc: Global,
-    copy: &mut Image<VolumeFile>,
+    volume: &mut HeldVolume,
     library: &LibrarySet,
 ) -> Result<OldLibrary, NewMemberFault>
-    ensures old { IfOk result (IsReadOf library.now.set.block library.now.kept library.now.set.extents.items copy.old.geometry copy.old.slots) }
-    ensures fault { IfErr result (λ e. IsNotReadIn e library.now.set.extents.items copy.old.geometry copy.old.slots) }
+    ensures old { IfOk result (IsReadOf library.now.set.block library.now.kept library.now.set.extents.items (image_of volume.old).geometry
+        (image_of volume.old).slots) }
+    ensures fault { IfErr result (λ e. IsNotReadIn e library.now.set.extents.items (image_of volume.old).geometry (image_of volume.old).slots) }
 {
     let extents = library.set.extents.as_slice();
-    let directory_blocks = match count_blocks(alloc, copy, extents) {
+    let directory_blocks = match count_blocks(alloc, volume, extents) {
         Ok(count) => count,
         Err(fault) => return Err(of_volume(fault)),
     };
-    match read_library(alloc, copy, extents) {
+    match read_library(alloc, volume, extents) {
         Ok(contents) => Ok(OldLibrary {
             form: form_in(&library.set.block),
             kept: library.kept,

@@ -48,8 +48,8 @@ returns-clause-old c =
     (subst (λ (h : Geometry). SaysOf h (said_in read) v) is c.in-Ok-judge.ensures.says) in
     let nothing = subst (λ (s : Said). all_findings g s ≡ []) same
     (subst (λ (h : Geometry). all_findings h (said_in read) ≡ []) is c.in-Ok-judge.ensures.nothing) in
-    if_ok c.read_copy.result (IsReadOf library.set.block library.kept library.set.extents.items g slots) (IsOld c.args.name.now g slots)
-    (old_read g slots v says nothing c.args.name.now library c.in-Ok-library_set.ensures.set) c.read_copy.ensures.old
+    if_ok c.read_held.result (IsReadOf library.set.block library.kept library.set.extents.items g slots) (IsOld c.args.name.now g slots)
+    (old_read g slots v says nothing c.args.name.now library c.in-Ok-library_set.ensures.set) c.read_held.ensures.old
 
 pub returns-clause-fault : goal.returns-clause-fault
 returns-clause-fault c =
@@ -64,5 +64,5 @@ returns-clause-fault c =
     (subst (λ (h : Geometry). SaysOf h (said_in read) v) is c.in-Ok-judge.ensures.says) in
     let nothing = subst (λ (s : Said). all_findings g s ≡ []) same
     (subst (λ (h : Geometry). all_findings h (said_in read) ≡ []) is c.in-Ok-judge.ensures.nothing) in
-    if_err c.read_copy.result (λ e. IsNotReadIn e library.set.extents.items g slots) (λ e. IsNotRead e c.args.name.now g slots)
-    (old_unread g slots v says nothing c.args.name.now library c.in-Ok-library_set.ensures.set) c.read_copy.ensures.fault
+    if_err c.read_held.result (λ e. IsNotReadIn e library.set.extents.items g slots) (λ e. IsNotRead e c.args.name.now g slots)
+    (old_unread g slots v says nothing c.args.name.now library c.in-Ok-library_set.ensures.set) c.read_held.ensures.fault
