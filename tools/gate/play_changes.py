@@ -130,7 +130,11 @@ class Pack:
         self.image.put_block(place, bytes(44), bytes(96))
         others = [self.address(it[0]) for it in self.blocks() if it[1].data[:1] == b"\xf1"]
         self.count(told if told != self.address(place) else (others[-1] if others else bytes(5)), 1)
-        return f"deleted {name}\n"
+        return f"deleted {name}\nits tracks were {self.place(first)}-{self.place(last)}\n"
+
+    def place(self, track: int) -> str:
+        """Cylinder and head of a track."""
+        return f"{track // self.heads}:{track % self.heads}"
 
     def place_of(self, name: str) -> Place:
         """Where the format 1 block of a data set stands."""

@@ -1,6 +1,8 @@
 -- What a change of a volume in files leaves and prints.
-use Rattle.std.specs.Prelude.{◌≡◌, ◌⊎◌, ℕ, Bool, true, false, List, [], ◌∷◌, if◌then◌else◌, codes, Result, Ok, Err}
-use Rattle.std.specs.List.{concat}
+use Rattle.std.specs.Prelude.{◌≡◌, ◌⊎◌, ℕ, Bool, true, false, List, [], ◌∷◌, ◌++◌, if◌then◌else◌, codes, Option, Some, None, Result, Ok, Err, String}
+use Rattle.std.specs.Global.{Global}
+use Rattle.std.specs.String.{string_bytes}
+use Rattle.std.specs.List.{concat, flat_map, position}
 use Rattle.std.specs.Fmt.{decimal}
 use Rattle.counted_io.specs.Streams.{Stream, Takes, TakesFront, NoneFailed, OneFailed}
 use Rattle.ckd_track.specs.declared.geometries.Geometry.{Geometry}
@@ -15,6 +17,10 @@ use Rattle.dasd_jobs.specs.declared.faults.JobFault.{JobFault}
 use Rattle.dasd_jobs.specs.declared.faults.JobFault.TheVariants.{Write}
 use Rattle.dasd_jobs.specs.declared.files.SavePlan.{SavePlan}
 use Rattle.dasd_jobs.specs.declared.files.SavePlan.TheVariants.{Replaced as by_new, InPlace}
+use Rattle.volume_labels.specs.declared.fields.Extent.{Extent}
+use Rattle.volume_contents.specs.declared.blocks.Block.{Block}
+use Rattle.volume_contents.specs.Contents.{Said, block_in, contents_of}
+use Rattle.volume_contents.specs.Sets.{has_name, extents_behind}
 use Rattle.volume_changes.specs.declared.refusal.ChangeRefusal.{ChangeRefusal}
 use Rattle.volume_changes.specs.declared.refusal.ChangeRefusal.TheVariants.{NoName, NoDataSet}
 use Rattle.volume_changes.specs.Names.{is_set_name}
@@ -111,12 +117,42 @@ RenamesSet result paths old new before now =
     ⊎ ((old_name new_name : List ℕ) × AreNames old new old_name new_name
     × TellsChange result (changing (renamed old_name new_name)) paths (λ g. renamed_line old new) before now)
 
+-- the first and the last track of an extent, each by its cylinder and head
+abbrev pub run_text : Extent → List ℕ
+run_text e = concat (
+    decimal e.first.cylinder ∷ codes ":" ∷ decimal e.first.head ∷ codes "-" ∷ decimal e.last.cylinder ∷ codes ":" ∷ decimal e.last.head ∷ [])
+
+-- an extent after another one
+abbrev pub next_run : Extent → List ℕ
+next_run e = codes "," ++ run_text e
+
+-- the tracks that a data set had, in the order of its extents; no line if it had none
+abbrev pub tracks_line : List Extent → List ℕ
+tracks_line [] = []
+tracks_line (e ∷ others) = concat (codes "its tracks were " ∷ run_text e ∷ flat_map next_run others ∷ (10 ∷ []) ∷ [])
+
 -- what a deletion prints
-abbrev pub deleted_line : (name : List ℕ) → List ℕ
-deleted_line name = concat (codes "deleted " ∷ name ∷ (10 ∷ []) ∷ [])
+abbrev pub deleted_text : (name : List ℕ) → List Extent → List ℕ
+deleted_text name extents = concat (codes "deleted " ∷ name ∷ (10 ∷ []) ∷ tracks_line extents ∷ [])
+
+-- the extents of the first data set of a name among control blocks
+abbrev pub extents_at : List Block → Option ℕ → List Extent
+extents_at blocks None = []
+extents_at blocks (Some i) = extents_behind blocks (block_in blocks i)
+
+abbrev pub extents_of : Said → (name : List ℕ) → List Extent
+extents_of s name = extents_at s.blocks (position (has_name name) s.blocks)
+
+-- the data set of a name, in EBCDIC, is deleted, and the answer says so, and where it was on the volume as it was read
+abbrev pub deleting : (name of_set : List ℕ) → Changing (String Global) ChangeRefusal
+deleting name of_set = record {
+  makes = λ g before text now. (deleted of_set g before ≡ Ok now)
+      × (string_bytes text ≡ deleted_text name (extents_of (contents_of g before) of_set));
+  refuses = λ r g slots. deleted of_set g slots ≡ Err r;
+}
 
 -- A data set of the volume in files is deleted; or no volume has the name, and no file is opened or written and nothing printed.
 abbrev pub DeletesSet : {A : Type 0} → Result A (ChangeFault ChangeRefusal) → (paths : List (List ℕ)) → (name : List ℕ) → (before now : Around) → Type 0
 DeletesSet result paths name before now =
     ((result ≡ Err (fault.Refused NoDataSet)) × (is_name 44 name ≡ false) × (now ≡ before))
-    ⊎ ((of_set : List ℕ) × Names name of_set × TellsChange result (changing (deleted of_set)) paths (λ g. deleted_line name) before now)
+    ⊎ ((of_set : List ℕ) × Names name of_set × TellsChange result (deleting name of_set) paths string_bytes before now)

@@ -1,22 +1,79 @@
 //! A data set of the volume of an image in memory that is deleted.
 
-ghost use Rattle.std.specs.Prelude.{◌≡◌, length, true, Ok, IfOk, IfErr, OnOk};
+ghost use Rattle.std.specs.Prelude.{◌≡◌, length, string_bytes, true, Ok, IfOk, IfErr, OnOk};
+ghost use Rattle.std.specs.List.{position};
 ghost use Rattle.volume_contents.specs.Contents.{contents_of, SaysOf};
+ghost use Rattle.volume_contents.specs.Sets.{has_name};
 ghost use Rattle.volume_changes.specs.Volumes.{said_in};
 ghost use Rattle.volume_changes.specs.Plans.{deletion_of, IsPlanned};
 ghost use Rattle.volume_changes.specs.Deletions.{all_changed, confirmed, is_confirmed, deleted_by};
 ghost use Rattle.changed_volumes.specs.Changes.{IsSameImage, IsRefused, IsHinderedBy};
+ghost use Rattle.changed_volumes.specs.Files.{deleted_text, extents_at};
 
+use crate::changes::ImageChange;
 use crate::fault::{ChangeFault, NO_MEMORY};
 use crate::images::{read_said, write_change};
+use crate::lines::deleted_text;
 use ckd_image::Image;
 use dasd_files::VolumeFile;
 use dasd_jobs::JobFault;
-use std::alloc::Global;
+use std::alloc::{AllocError, Global};
 use volume_changes::{
     BlockChange, ChangeRefusal, DeletionPlan, PlanFault, is_confirmed, plan_deletion,
 };
-use volume_contents::{Block, Contents};
+use volume_contents::{Block, Contents, find};
+
+/// A data set that is deleted, and what is said of it.
+#[derive(Clone, Copy)]
+pub(crate) struct SetDeletion<'a> {
+    /// Its name as it was asked for.
+    pub(crate) name: &'a str,
+    /// Its name in EBCDIC, with blanks after it.
+    pub(crate) of_set: [u8; 44],
+}
+
+impl<'a> ImageChange for SetDeletion<'a> {
+    ghost use Rattle.changed_volumes.specs.Files.{deleting};
+
+    type Answer = String;
+
+    type Refusal = ChangeRefusal;
+
+    ghost changing = { λ d. deleting d.name.now d.of_set };
+
+    fn change(&self, alloc: Global, image: &mut Image<VolumeFile>) -> Result<String, ChangeFault> {
+        let contents = read_said(alloc, image)?;
+        let Ok(text) = text_of(
+            alloc,
+            self.name,
+            contents.found.blocks.as_slice(),
+            &self.of_set,
+        ) else {
+            return Err(NO_MEMORY);
+        };
+        let Ok(mut slot) = vec![in alloc; 0u8; image.geometry().track_size as usize] else {
+            return Err(NO_MEMORY);
+        };
+        delete(alloc, image, slot.as_mut_slice(), contents, &self.of_set)?;
+        Ok(text)
+    }
+}
+
+// What is said of the first data set of a name that is deleted.
+fn text_of(
+    alloc: Global,
+    name: &str,
+    blocks: &[Block],
+    of_set: &[u8; 44],
+) -> Result<String, AllocError>
+    ensures { IfOk result (λ text. string_bytes text
+        ≡ deleted_text name.now (extents_at blocks.now (position (has_name of_set.now) blocks.now))) }
+{
+    match find(alloc, blocks, &of_set[..])? {
+        Some(set) => deleted_text(alloc, name, set.extents.as_slice()),
+        None => deleted_text(alloc, name, &[]),
+    }
+}
 
 /// Deletes a data set of the volume of an image that says this, by a slot of its size.
 ///

@@ -7,10 +7,11 @@ ghost use Rattle.changed_volumes.specs.Changes.{changing};
 ghost use Rattle.changed_volumes.specs.Files.{plan_of, TellsChange, RenamesSet, DeletesSet, relabelled_line};
 
 use crate::changes::change_files;
+use crate::deletions::SetDeletion;
 use crate::fault::{ChangeFault, of_line};
 use crate::images::VolumeChange;
-use crate::lines::{write_deleted, write_relabelled, write_renamed};
-use counted_io::Counted;
+use crate::lines::{write_relabelled, write_renamed};
+use counted_io::{Counted, write_flushed};
 use dasd_extract::data_set_name;
 use dasd_jobs::{ImageFiles, SavePlan};
 use std::alloc::Global;
@@ -108,7 +109,8 @@ pub fn relabel_volume<F: ImageFiles, W: Write>(
 
 /// Deletes a data set of the volume in files: its control blocks become free, and its tracks free again where the volume keeps its free tracks;
 /// what stands on them stays. Of several of the name the first in the order of the table of contents is deleted. The files that changed are
-/// saved, and what was deleted is printed. The files are locked and read whole before.
+/// saved; what was deleted is printed, and on a second line which tracks it had, by its extents in their order, if it had any. The files are
+/// locked and read whole before.
 ///
 /// # Errors
 ///
@@ -139,8 +141,8 @@ pub fn delete_data_set<F: ImageFiles, W: Write>(
     let Some(of_set) = data_set_name(name) else {
         return Err(ChangeFault::Refused(ChangeRefusal::NoDataSet));
     };
-    match change_files(alloc, files, volume, &VolumeChange::Delete(of_set)) {
-        Ok(_) => of_line(write_deleted(writer, name)),
+    match change_files(alloc, files, volume, &SetDeletion { name, of_set }) {
+        Ok(text) => of_line(write_flushed(writer, text.as_bytes())),
         Err(fault) => Err(fault),
     }
 }
