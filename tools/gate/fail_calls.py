@@ -78,8 +78,8 @@ class Command:
         return self.words[0] in ("run", *CHANGES) and "--replace" not in self.words or self.words[0] in ("format", "recover")
 
     def reports(self) -> bool:
-        """Whether it has something to report where nothing fails: a save that had begun, or a file that another one replaces."""
-        return bool(self.begun) or "--replace" in self.words or self.words[:2] == ["format", "one.ckd"]
+        """Whether it has something to report where nothing fails: a save that had begun, a file that another one replaces, or what it did not look at."""
+        return bool(self.begun) or {"--replace", "--strict"} & {*self.words} != set() or self.words[:2] == ["format", "one.ckd"]
 
     def read_faults(self) -> tuple[str, ...]:
         """What a fault of a read is called."""

@@ -3,6 +3,7 @@
 
 mod faults;
 mod names;
+mod rules;
 mod terminal;
 
 ghost use Rattle.std.specs.Prelude.{◌≡◌, OnOk};
@@ -50,6 +51,10 @@ const AS_FAR: &str = "--as-far-as-it-goes";
 /// What is said without words where something is in standard input.
 const UNREAD_INPUT: &str =
     "without words dasd runs a stored deck, and reads no input: dasd run reads a deck";
+
+/// What is said of a strict check, which reads tracks and not what their records say.
+const NOT_LOOKED_AT: &str =
+    "labels, free tracks and directories were not looked at: dasd check --contents does that";
 
 /// What `dasd` does without words.
 const STORED_RUN: [&str; 3] = ["dasd", "run", "90=new:2311:1"];
@@ -227,6 +232,10 @@ fn say_more(
         Err(fault) => write_fault(alloc, words, remarks, writer, fault),
         Ok(_) if as_far(words) => write_reach(alloc, words, remarks, writer)?,
         Ok(_) => {}
+    }
+    let is_strict = words.iter().any(|word| *word == "--strict");
+    if ended.is_ok() && is_strict && !as_far(words) && !words.iter().any(|word| *word == "--json") {
+        remarks.note(&NOT_LOOKED_AT);
     }
     ended
 }

@@ -2,6 +2,7 @@
 
 ghost use Rattle.std.specs.Prelude.{◌≡◌};
 
+use crate::rules::RULES;
 use dasd_extract::{data_set_name, read_members};
 use dasd_jobs::{ImageFiles, open_volume};
 use dasd_run::ProgramFault;
@@ -16,15 +17,6 @@ use volume_labels::safe_name;
 
 /// A name is near a word if at most one edit for so many characters of the word leads to it.
 const CHARACTERS_AN_EDIT: usize = 3;
-
-/// The rule of names of data sets.
-const SET_RULE: &str =
-    "a data set has a name of at most 44 characters: simple names of 1 to 8 capital letters, digits, #, @, $ and \
-hyphens, joined by periods, each of which begins with no digit or hyphen";
-
-/// The rule of names of members.
-const MEMBER_RULE: &str =
-    "a member has a name of 1 to 8 capital letters, digits, #, @ and $, which begins with no digit";
 
 /// What is told of a word before a name.
 const NEAREST: &str = "the nearest name is ";
@@ -56,7 +48,8 @@ enum Refused {
     Taken,
 }
 
-/// Remarks the name that a fault refuses, and the nearest one that is there, or what a name must be.
+/// Remarks the name that a fault refuses, and the nearest one that is there, or what a name must be; or what would be right in the place of
+/// something else that is refused.
 pub(crate) fn note_name<F: ImageFiles>(
     alloc: Global,
     words: &[&str],
@@ -79,9 +72,14 @@ pub(crate) fn note_name<F: ImageFiles>(
         "no member named" => Refused::Unnamed,
         "not a partitioned data set" => Refused::Plain,
         "a member has this name" => Refused::Taken,
-        "not a name of a data set" => return remarks.note(&SET_RULE),
-        "not a name of a member" => return remarks.note(&MEMBER_RULE),
-        _ => return,
+        text => {
+            for (end, rule) in RULES {
+                if text.ends_with(end) {
+                    remarks.note(&rule);
+                }
+            }
+            return;
+        }
     };
     if let Some(named) = named_set(alloc, words) {
         note_word(alloc, files, remarks, &named, refused);
