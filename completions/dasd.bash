@@ -15,7 +15,7 @@ _dasd() {
     local word=${COMP_WORDS[COMP_CWORD]} before=${COMP_WORDS[COMP_CWORD - 1]} command=${COMP_WORDS[1]}
     COMPREPLY=()
     if [ "$COMP_CWORD" -eq 1 ]; then
-        _dasd_words format list check dump compare hash vtoc extract load rename delete relabel recover explain assemble disassemble run help --verbose -h --help -V --version
+        _dasd_words format list check dump compare hash vtoc extract load rename delete relabel recover ls cat cp mv rm explain assemble disassemble run help --verbose -h --help -V --version
         return
     fi
     case $command:$before in
@@ -87,6 +87,27 @@ _dasd() {
     relabel:--owner)
         return
         ;;
+    cat:--record-format)
+        return
+        ;;
+    cat:--record-length)
+        return
+        ;;
+    cat:--block-length)
+        return
+        ;;
+    cp:--record-format)
+        return
+        ;;
+    cp:--record-length)
+        return
+        ;;
+    cp:--block-length)
+        return
+        ;;
+    cp:--key-length)
+        return
+        ;;
     run:--storage)
         return
         ;;
@@ -111,7 +132,7 @@ _dasd() {
     esac
     case $command in
     help)
-        [ "$COMP_CWORD" -eq 2 ] && _dasd_words format list check dump compare hash vtoc extract load rename delete relabel recover explain assemble disassemble run help
+        [ "$COMP_CWORD" -eq 2 ] && _dasd_words format list check dump compare hash vtoc extract load rename delete relabel recover ls cat cp mv rm explain assemble disassemble run help
         ;;
     format)
         if [[ $word == -* ]]; then _dasd_words --model --cylinders --label --owner --vtoc --vtoc-at --no-replace --verbose -h --help; return; fi
@@ -163,6 +184,26 @@ _dasd() {
         ;;
     recover)
         if [[ $word == -* ]]; then _dasd_words --drop --verbose -h --help; return; fi
+        _dasd_files
+        ;;
+    ls)
+        if [[ $word == -* ]]; then _dasd_words --members --long --as-far-as-it-goes --json --verbose -h --help; return; fi
+        _dasd_files
+        ;;
+    cat)
+        if [[ $word == -* ]]; then _dasd_words --record-format --record-length --block-length --as-far-as-it-goes --verbose -h --help; return; fi
+        _dasd_files
+        ;;
+    cp)
+        if [[ $word == -* ]]; then _dasd_words --text --with-lengths --raw --record-format --record-length --block-length --key-length --as-far-as-it-goes --replace --verbose -h --help; return; fi
+        _dasd_files
+        ;;
+    mv)
+        if [[ $word == -* ]]; then _dasd_words --replace --verbose -h --help; return; fi
+        _dasd_files
+        ;;
+    rm)
+        if [[ $word == -* ]]; then _dasd_words --replace --verbose -h --help; return; fi
         _dasd_files
         ;;
     explain)

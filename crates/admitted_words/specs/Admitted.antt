@@ -1,5 +1,5 @@
 -- Which words ask for a request: its command, its paths and names, and the options that decide what is opened and written.
-use Rattle.std.specs.Prelude.{◌≡◌, ℕ, ◌-◌, ◌==◌, Bool, true, false, ◌&&◌, ◌||◌, not, List, [], ◌∷◌, ◌++◌, length, map, drop, codes}
+use Rattle.std.specs.Prelude.{◌≡◌, ℕ, ◌-◌, ◌==◌, Bool, true, false, ◌&&◌, ◌||◌, not, List, [], ◌∷◌, length, map, drop, codes}
 use Rattle.std.specs.Prelude.{Option, Some, None, is_some, if◌then◌else◌}
 use Rattle.std.specs.List.{join_by}
 use Rattle.std.specs.Option.{option_copied}
@@ -9,13 +9,14 @@ use Rattle.dasd_words.specs.declared.requests.AskedTrace.{AskedTrace}
 use Rattle.dasd_words.specs.declared.requests.ComparedVolumes.{ComparedVolumes}
 use Rattle.dasd_words.specs.declared.requests.DeckRun.{DeckRun}
 use Rattle.dasd_words.specs.declared.requests.FileForm.{FileForm}
-use Rattle.dasd_words.specs.declared.requests.FileForm.TheVariants as form
 use Rattle.dasd_words.specs.declared.requests.NewImage.{NewImage}
 use Rattle.dasd_words.specs.declared.requests.PrintedVolume.{PrintedVolume}
 use Rattle.dasd_words.specs.declared.requests.Request.{Request}
 use Rattle.dasd_words.specs.declared.requests.Request.TheVariants as request
 use Rattle.dasd_words.specs.declared.requests.TraceTarget.{TraceTarget}
 use Rattle.dasd_words.specs.declared.requests.TraceTarget.TheVariants.{StandardError, File}
+use Rattle.admitted_words.specs.Forms.{reads, is_form, word_of}
+use Rattle.admitted_words.specs.InPacks.{in_packs}
 use Rattle.admitted_words.specs.Volumes.{are_named}
 
 -- a new image at a path, with a label or without one
@@ -23,10 +24,6 @@ abbrev pub formats : Line → NewImage → (labelled : Bool) → Bool
 formats line image labelled =
     asks line (codes "format") (image.path.now ∷ []) [] && is_set line (codes "--no-replace") (not image.replaces)
     && is_valued line (codes "--label") labelled
-
--- how a volume is read, and what is printed of it
-abbrev pub reads : Line → PrintedVolume → Bool
-reads line volume = is_set line (codes "--json") volume.json && is_set line (codes "--as-far-as-it-goes") volume.as_far
 
 -- a volume of which something is printed: its files, and these words after them
 abbrev pub prints : Line → (command : List ℕ) → PrintedVolume → (others : List (List ℕ)) → Bool
@@ -57,17 +54,6 @@ compares line volumes =
     asks line (codes "compare")
     (join_by (λ path. path.now) (codes "+") volumes.one.items ∷ join_by (λ path. path.now) (codes "+") volumes.other.items ∷ []) []
     && are_files line volumes && compares_so line volumes
-
--- what a file has: lines of text, blocks with their lengths, or blocks alone
-abbrev pub is_form : Line → FileForm → Bool
-is_form line form.Text = has line (codes "--text")
-is_form line form.WithLengths = not (has line (codes "--text")) && has line (codes "--with-lengths")
-is_form line form.Blocks = not (has line (codes "--text")) && not (has line (codes "--with-lengths"))
-
--- the word for a data set, or for a member of one
-abbrev pub word_of : (set : List ℕ) → (member : Option (List ℕ)) → List ℕ
-word_of set None = set
-word_of set (Some member) = set ++ codes "(" ++ member ++ codes ")"
 
 -- what is taken out of a volume: by a name after its files, or all into a folder; its tracks with --raw, and its members are listed with --list
 abbrev pub takes : Line → (raw list : Bool) → (folder : Option (List ℕ)) → Bool
@@ -113,7 +99,7 @@ abbrev pub runs : Line → DeckRun → Bool
 runs line asked =
     begins line (codes "run") [] && are_named (drop 1 line.operands) asked.volumes.items && saves line asked && has_files line asked
 
--- Words ask for a request.
+-- Words ask for a request by the command that is its own.
 abbrev pub admits : Line → Request → Bool
 admits line (request.Format image) = formats line image false
 admits line (request.FormatLabelled image label) = formats line image true
@@ -166,6 +152,10 @@ admits line (request.Assemble path) = asks_text line (codes "assemble") (option_
 admits line (request.Disassemble path) = asks_text line (codes "disassemble") (option_copied path)
 admits line (request.Run asked) = runs line asked
 
+-- Words ask for a request: by its own command, or by ls, cat, cp, mv or rm.
+abbrev pub is_asked : Line → Request → Bool
+is_asked line asked = admits line asked || in_packs line asked
+
 -- The words, of which the first is the program's name, ask for this request.
 abbrev pub AskFor : (words : List (List ℕ)) → Request → Type 0
-AskFor words asked = admits (line_of (map (λ name. name.now) VALUED) (drop 1 words)) asked ≡ true
+AskFor words asked = is_asked (line_of (map (λ name. name.now) VALUED) (drop 1 words)) asked ≡ true

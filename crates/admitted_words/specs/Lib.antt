@@ -1,3 +1,5 @@
 pub mod Admitted
+pub mod Forms
+pub mod InPacks
 pub mod Volumes
 pub mod Writing

@@ -3,7 +3,8 @@
 ghost use Rattle.std.specs.Prelude.{◌≡◌, map, Some, IfOk, string_bytes};
 ghost use Rattle.std.specs.Option.{option_copied};
 ghost use Rattle.command_words.specs.Lines.{seen};
-ghost use Rattle.admitted_words.specs.Admitted.{loads, admits, word_of};
+ghost use Rattle.admitted_words.specs.Admitted.{loads, admits};
+ghost use Rattle.admitted_words.specs.Forms.{word_of};
 ghost use Rattle.dasd_words.specs.declared.requests.Request.TheVariants as request;
 
 use crate::extracts::{is_form, word_of};

@@ -3,7 +3,8 @@
 ghost use Rattle.std.specs.Prelude.{◌≡◌, IfOk, string_bytes};
 ghost use Rattle.std.specs.Option.{option_copied};
 ghost use Rattle.command_words.specs.Lines.{seen};
-ghost use Rattle.admitted_words.specs.Admitted.{is_form, word_of, takes, goes_to, admits};
+ghost use Rattle.admitted_words.specs.Admitted.{takes, goes_to, admits};
+ghost use Rattle.admitted_words.specs.Forms.{is_form, word_of};
 ghost use Rattle.dasd_words.specs.declared.requests.Request.TheVariants as request;
 
 use crate::prints::prints;

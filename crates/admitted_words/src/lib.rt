@@ -3,18 +3,21 @@
 
 mod changes;
 mod extracts;
+mod in_packs;
 mod prints;
 mod requests;
 mod runs;
 
 ghost use Rattle.std.specs.Prelude.{◌≡◌, false, drop, map, IfOk};
-ghost use Rattle.admitted_words.specs.Admitted.{AskFor};
+ghost use Rattle.command_words.specs.Lines.{seen};
+ghost use Rattle.admitted_words.specs.Admitted.{AskFor, is_asked};
 ghost use Rattle.admitted_words.specs.Writing.{OnlyRead, may_write};
 
+use crate::in_packs::in_packs;
 use crate::requests::admits;
 use command_words::CommandLine;
-use dasd_words::{Asked, WordFault, read_words};
-use std::alloc::Global;
+use dasd_words::{Asked, Request, WordFault, read_words};
+use std::alloc::{AllocError, Global};
 
 /// The options that take a value.
 pub const VALUED: [&str; 21] = [
@@ -56,11 +59,21 @@ pub fn read_admitted<'a>(alloc: Global, words: &'a [&'a str]) -> Result<Asked<'a
 {
     let asked = read_words(alloc, words)?;
     let line = CommandLine::new(alloc, &VALUED, after_first(words))?;
-    if admits(alloc, &line, &asked.request)? {
+    if is_asked(alloc, &line, &asked.request)? {
         Ok(asked)
     } else {
         Err(WordFault::Usage(MISREAD.to_string(alloc)?))
     }
+}
+
+// Whether words ask for this request: by its own command, or by one that names places in packs.
+fn is_asked(alloc: Global, line: &CommandLine, request: &Request) -> Result<bool, AllocError>
+    ensures { IfOk result (λ is. is ≡ is_asked (seen line.now) request.now) }
+{
+    if admits(alloc, line, request)? {
+        return Ok(true);
+    }
+    in_packs(alloc, line, request)
 }
 
 // All words but the first.

@@ -2,7 +2,8 @@
 
 ghost use Rattle.std.specs.Prelude.{◌≡◌, [], map, IfOk};
 ghost use Rattle.command_words.specs.Lines.{seen, asks};
-ghost use Rattle.admitted_words.specs.Admitted.{reads, prints, has_part, dumps, are_files, compares_so, compares};
+ghost use Rattle.admitted_words.specs.Admitted.{prints, has_part, dumps, are_files, compares_so, compares};
+ghost use Rattle.admitted_words.specs.Forms.{reads};
 
 use command_words::CommandLine;
 use dasd_words::{ComparedVolumes, PrintedVolume};
@@ -15,8 +16,8 @@ pub(crate) fn prints_plainly(line: &CommandLine, command: &str, paths: &[&str]) 
     line.asks(command, paths, &[])
 }
 
-// Whether words ask for these lines, and for a volume to be read so far.
-fn reads(line: &CommandLine, volume: &PrintedVolume) -> bool
+/// Whether words ask for these lines, and for a volume to be read so far.
+pub(crate) fn reads(line: &CommandLine, volume: &PrintedVolume) -> bool
     ensures { result ≡ reads (seen line.now) volume.now }
 {
     line.is_set("--json", volume.json) && line.is_set("--as-far-as-it-goes", volume.as_far)

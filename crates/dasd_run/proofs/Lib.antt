@@ -5,5 +5,6 @@ mod Loading
 pub mod Paths
 pub mod Saving
 mod Told
+mod Unfiled
 pub mod Obeying
 pub mod Writes

@@ -14,6 +14,7 @@ use Rattle.dasd_run.specs.Answers.{Answers}
 use Rattle.dasd_run.specs.Outside.{Outside}
 use Rattle.dasd_run.specs.Runs.{Stops, RunsOrStops}
 use Rattle.dasd_run.specs.Saves.{Ends}
+use Rattle.dasd_run.proofs.Unfiled.{set_unfiled, tracks_unfiled}
 
 -- a run that saves nothing ends so
 ended_unsaved : (saves : Bool) (run : Result (Unit {0}) RunFault) (result : Result (Unit {0}) ProgramFault) (volumes : List Volume)
@@ -38,8 +39,8 @@ pub writes_none : (asked : Request) (result : Result Ending ProgramFault) (befor
     Answers asked result before now → now.written ≡ before.written
 writes_none (request.Format image) result before now h a = cc
 writes_none (request.FormatLabelled image label) result before now h a = cc
-writes_none (request.Extract asked) result before now h a = cc
-writes_none (request.ExtractTracks asked) result before now h a = cc
+writes_none (request.Extract asked) result before now h a = set_unfiled result asked before now h a.0
+writes_none (request.ExtractTracks asked) result before now h a = tracks_unfiled result asked before now h a.0
 writes_none (request.ExtractAll asked) result before now h a = cc
 writes_none (request.Rename asked) result before now h a = cc
 writes_none (request.RenameMember asked) result before now h a = cc

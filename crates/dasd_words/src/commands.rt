@@ -1,9 +1,11 @@
 //! The commands of `dasd`: each has a module of its own, for its options and for what they ask.
 
+use crate::listings::read_printed;
 use crate::options::{CommandRow, VERBOSE, command, with_arg};
 use crate::requests::{Asked, Request, WordFault};
 use crate::{
-    archive, assembler, changes, explain, extract, format, hash, list, loads, recover, run, vtoc,
+    archive, assembler, changes, explain, extract, format, hash, in_packs, list, loads, recover,
+    run, vtoc,
 };
 use clap::error::ErrorKind;
 use clap::{ArgMatches, Command, Error};
@@ -16,9 +18,10 @@ const AFTER_HELP: &str = "Example: dasd run 90=new:2311:1 < deck.txt
 Without words dasd runs a stored deck over a new volume, and reads nothing";
 
 /// How many commands there are.
-const COMMANDS: usize = 17;
+const COMMANDS: usize = 22;
 
-// The row of a command by its place in the help: first those over volumes, then those that change one, then those over decks. Each row is a
+// The row of a command by its place in the help: first those over volumes, then those that change one, those of places in
+// packs, then those over decks. Each row is a
 // static of its own: the proof of what names a static goes over all that it holds at once.
 fn row_at(place: usize) -> Option<&'static CommandRow> {
     match place {
@@ -35,42 +38,32 @@ fn row_at(place: usize) -> Option<&'static CommandRow> {
         10 => Some(&changes::DELETE),
         11 => Some(&changes::RELABEL),
         12 => Some(&recover::COMMAND),
-        13 => Some(&explain::COMMAND),
-        14 => Some(&assembler::ASSEMBLE),
-        15 => Some(&assembler::DISASSEMBLE),
-        16 => Some(&run::COMMAND),
+        13 => Some(&in_packs::LS),
+        14 => Some(&in_packs::CAT),
+        15 => Some(&in_packs::CP),
+        16 => Some(&in_packs::MV),
+        17 => Some(&in_packs::RM),
+        18 => Some(&explain::COMMAND),
+        19 => Some(&assembler::ASSEMBLE),
+        20 => Some(&assembler::DISASSEMBLE),
+        21 => Some(&run::COMMAND),
         _ => None,
     }
 }
 
 fn dasd_command<'a>(alloc: Global) -> Result<Command<'a>, AllocError> {
-    let dasd = Command::new(alloc, "dasd")
+    let mut dasd = Command::new(alloc, "dasd")
         .about("Formats, lists and checks CKD_P370 disk images, and runs decks over them")
         .version("1.2.0")
         .after_help(AFTER_HELP)
         .subcommand_required(true);
-    let dasd = with_commands(alloc, dasd)?;
-    with_arg(alloc, dasd, &VERBOSE)
-}
-
-// The program with all commands more.
-fn with_commands<'a>(alloc: Global, mut dasd: Command<'a>) -> Result<Command<'a>, AllocError> {
     for place in 0..COMMANDS {
         if let Some(row) = row_at(place) {
-            dasd = with_command(alloc, dasd, row)?;
+            let command = command(alloc, row)?;
+            dasd = dasd.subcommand(command)?;
         }
     }
-    Ok(dasd)
-}
-
-// The program with the command of one row more.
-fn with_command<'a>(
-    alloc: Global,
-    dasd: Command<'a>,
-    row: &CommandRow,
-) -> Result<Command<'a>, AllocError> {
-    let command = command(alloc, row)?;
-    dasd.subcommand(command)
+    with_arg(alloc, dasd, &VERBOSE)
 }
 
 /// Reads the words of `dasd`, the first of which is the program's name.
@@ -81,7 +74,13 @@ fn with_command<'a>(
 /// another form; or no memory.
 pub fn read_words<'a>(alloc: Global, words: &'a [&'a str]) -> Result<Asked<'a>, WordFault> {
     let matches = match_words(alloc, words)?;
-    read_matches(alloc, &matches)
+    let Some((name, options)) = matches.subcommand() else {
+        return Err(wrong(alloc, NO_COMMAND));
+    };
+    Ok(Asked {
+        request: read_request(alloc, name, options)?,
+        is_verbose: options.get_flag("verbose") || matches.get_flag("verbose"),
+    })
 }
 
 const NO_COMMAND: &str = "error: no command\n";
@@ -97,17 +96,6 @@ pub(crate) fn match_words<'a>(
     }
 }
 
-// What the command among them is asked, and how.
-fn read_matches<'a>(alloc: Global, matches: &ArgMatches<'a>) -> Result<Asked<'a>, WordFault> {
-    let Some((name, options)) = matches.subcommand() else {
-        return Err(wrong(alloc, NO_COMMAND));
-    };
-    Ok(Asked {
-        request: read_request(alloc, name, options)?,
-        is_verbose: options.get_flag("verbose") || matches.get_flag("verbose"),
-    })
-}
-
 // What the command of this name is asked.
 fn read_request<'a>(
     alloc: Global,
@@ -121,13 +109,18 @@ fn read_request<'a>(
         "dump" => archive::read_dump(alloc, options),
         "compare" => archive::read_compare(alloc, options),
         "hash" => hash::read(alloc, options),
-        "vtoc" => vtoc::read(alloc, options),
+        "vtoc" => Ok(vtoc::read(options, read_printed(alloc, options)?)),
         "extract" => extract::read(alloc, options),
         "load" => loads::read(alloc, options),
         "rename" => changes::read_rename(alloc, options),
         "delete" => changes::read_delete(alloc, options),
         "relabel" => changes::read_relabel(alloc, options),
         "recover" => recover::read(alloc, options),
+        "ls" => in_packs::read_ls(alloc, options),
+        "cat" => in_packs::read_cat(alloc, options),
+        "cp" => in_packs::read_cp(alloc, options),
+        "mv" => in_packs::read_mv(alloc, options),
+        "rm" => in_packs::read_rm(alloc, options),
         "explain" => explain::read(alloc, options),
         "assemble" => Ok(assembler::read_assemble(options)),
         "disassemble" => Ok(assembler::read_disassemble(options)),

@@ -1,5 +1,8 @@
 //! The words of `dasd extract`.
 
+ghost use Rattle.std.specs.Prelude.{◌≡◌, true, is_some, IfOk};
+ghost use Rattle.dasd_words.specs.InPacks.{takes};
+
 use crate::commands::{NO_PATH, wrong};
 use crate::listings::read_paths;
 use crate::options::{AS_FAR, ArgKind, ArgRow, CommandRow, FILE, JSON, Value, WITH_LENGTHS, WORDS};
@@ -97,7 +100,7 @@ pub(crate) fn read<'a>(alloc: Global, options: &ArgMatches<'a>) -> Result<Reques
     if is_raw && (form != FileForm::Blocks || options.get_str("all").is_some()) {
         return Err(wrong(alloc, RAW_TEXT));
     }
-    let given = read_given(alloc, options)?;
+    let given = read_given(alloc, options, form)?;
     if let Some(folder) = options.get_str("all") {
         return Ok(Request::ExtractAll(ExtractedVolume {
             paths: read_paths(alloc, words)?,
@@ -121,10 +124,7 @@ pub(crate) fn read<'a>(alloc: Global, options: &ArgMatches<'a>) -> Result<Reques
         form,
         given,
     };
-    if is_raw {
-        return read_raw(alloc, set);
-    }
-    Ok(Request::Extract(set))
+    taken(alloc, is_raw, set)
 }
 
 // The members of a data set.
@@ -133,11 +133,12 @@ fn read_list<'a>(
     options: &ArgMatches<'a>,
     words: &[&'a str],
 ) -> Result<Request<'a>, WordFault> {
-    if read_form(options) != FileForm::Blocks
+    let form = read_form(options);
+    if form != FileForm::Blocks
         || options.get_flag("raw")
         || options.get_str("all").is_some()
         || options.get_str("to").is_some()
-        || read_given(alloc, options)?.is_some()
+        || read_given(alloc, options, form)?.is_some()
     {
         return Err(wrong(alloc, LIST_ALONE));
     }
@@ -157,8 +158,17 @@ fn read_list<'a>(
     }))
 }
 
-// The tracks of a data set, which is no member.
-fn read_raw<'a>(alloc: Global, set: ExtractedSet<'a>) -> Result<Request<'a>, WordFault> {
+/// A data set or a member that is taken out, or the tracks of a data set, which is no member.
+pub(crate) fn taken<'a>(
+    alloc: Global,
+    is_raw: bool,
+    set: ExtractedSet<'a>,
+) -> Result<Request<'a>, WordFault>
+    ensures { IfOk result (λ asked. takes (is_some set.entry.target) asked ≡ true) }
+{
+    if !is_raw {
+        return Ok(Request::Extract(set));
+    }
     let ExtractedSet {
         paths,
         as_far,

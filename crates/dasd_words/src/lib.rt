@@ -10,6 +10,7 @@ mod explain;
 mod extract;
 mod format;
 mod hash;
+mod in_packs;
 mod label;
 mod list;
 mod listings;
@@ -25,6 +26,7 @@ mod vtoc;
 
 pub use crate::commands::read_words;
 pub use crate::decks::{DECK_TABLE, operand_rule};
+pub use crate::in_packs::is_host_file;
 pub use crate::refused::{
     NamedSet, VOLUME_RULE, first_bad_volume, is_comparison, named_set, object_path, taken_address,
 };

@@ -1,5 +1,8 @@
 //! The words of `dasd load`.
 
+ghost use Rattle.std.specs.Prelude.{◌≡◌, true, IfOk};
+ghost use Rattle.dasd_words.specs.InPacks.{puts};
+
 use crate::changes::REPLACE;
 use crate::commands::wrong;
 use crate::listings::read_paths;
@@ -33,6 +36,16 @@ How the blocks of a member are formed stands in the label of its library.
 ";
 
 const KEYS_APART: &str = "error: --key-length goes with --with-lengths\n";
+
+/// The option for the length of keys.
+pub(crate) const KEY_LENGTH: ArgRow = ArgRow {
+    id: "key-length",
+    help: "with --with-lengths, the length of keys in bytes",
+    kind: ArgKind::Valued(Value {
+        name: "BYTES",
+        ..FILE
+    }),
+};
 
 /// The command, with its words.
 pub(crate) static COMMAND: CommandRow = CommandRow {
@@ -100,14 +113,7 @@ pub(crate) static COMMAND: CommandRow = CommandRow {
                 ..FILE
             }),
         },
-        ArgRow {
-            id: "key-length",
-            help: "with --with-lengths, the length of keys in bytes",
-            kind: ArgKind::Valued(Value {
-                name: "BYTES",
-                ..FILE
-            }),
-        },
+        KEY_LENGTH,
         REPLACE,
     ],
 };
@@ -128,51 +134,59 @@ pub(crate) fn read<'a>(alloc: Global, options: &ArgMatches<'a>) -> Result<Reques
     let Some(source) = options.get_str("from") else {
         return Err(wrong(alloc, NO_SOURCE));
     };
-    if let Some(member) = options.get_str("member") {
-        return read_member(alloc, options, paths, (name, member, source));
-    }
-    let form = read_form(options);
-    let key_length = read_key_length(alloc, options)?;
-    if key_length != 0 && form != FileForm::WithLengths {
-        return Err(wrong(alloc, KEYS_APART));
-    }
-    Ok(Request::Load(LoadedFile {
-        paths: read_paths(alloc, paths)?,
-        replaces: options.get_flag("replace"),
-        name,
-        source,
-        form,
-        attributes: read_attributes(alloc, options)?,
-        key_length,
-    }))
+    read_named(
+        alloc,
+        options,
+        paths,
+        (name, options.get_str("member"), source),
+    )
 }
 
-// Whether words give a record format, or a length of records, blocks or keys.
-fn gives_label(options: &ArgMatches) -> bool {
+/// Whether words give a record format, or a length of records, blocks or keys.
+pub(crate) fn gives_label(options: &ArgMatches) -> bool {
     options.get_str("record-format").is_some()
         || options.get_str("record-length").is_some()
         || options.get_str("block-length").is_some()
         || options.get_str("key-length").is_some()
 }
 
-// A member of a library.
-fn read_member<'a>(
+/// A file that is put onto the volume of these files: as a data set of this name, or as this member of it.
+pub(crate) fn read_named<'a>(
     alloc: Global,
     options: &ArgMatches<'a>,
     paths: &[&'a str],
-    words: (&'a str, &'a str, &'a str),
-) -> Result<Request<'a>, WordFault> {
-    if gives_label(options) {
-        return Err(wrong(alloc, MEMBER_ALONE));
+    words: (&'a str, Option<&'a str>, &'a str),
+) -> Result<Request<'a>, WordFault>
+    ensures { IfOk result (λ asked. puts asked ≡ true) }
+{
+    let (name, member, source) = words;
+    let replaces = options.get_flag("replace");
+    let form = read_form(options);
+    if let Some(member) = member {
+        if gives_label(options) {
+            return Err(wrong(alloc, MEMBER_ALONE));
+        }
+        return Ok(Request::LoadMember(LoadedMember {
+            paths: read_paths(alloc, paths)?,
+            replaces,
+            library: name,
+            member,
+            source,
+            form,
+        }));
     }
-    let (library, member, source) = words;
-    Ok(Request::LoadMember(LoadedMember {
+    let key_length = read_key_length(alloc, options)?;
+    if key_length != 0 && form != FileForm::WithLengths {
+        return Err(wrong(alloc, KEYS_APART));
+    }
+    Ok(Request::Load(LoadedFile {
         paths: read_paths(alloc, paths)?,
-        replaces: options.get_flag("replace"),
-        library,
-        member,
+        replaces,
+        name,
         source,
-        form: read_form(options),
+        form,
+        attributes: read_attributes(alloc, options)?,
+        key_length,
     }))
 }
 

@@ -71,10 +71,11 @@ const SILENT: RecordAttributes = RecordAttributes {
     block_length: 0,
 };
 
-/// What words give of a data set's records, if they do: nothing that contradicts itself.
+/// What words give of the records of a data set that is written in this form, if they do: nothing that contradicts itself.
 pub(crate) fn read_given(
     alloc: Global,
     options: &ArgMatches,
+    form: FileForm,
 ) -> Result<Option<RecordAttributes>, WordFault> {
     let record_length = read_length(alloc, options, "record-length")?;
     let block_length = read_length(alloc, options, "block-length")?;
@@ -87,7 +88,7 @@ pub(crate) fn read_given(
     let Some(format) = format_of(word) else {
         return Err(not_taken(alloc, "record-format", FORMAT_RULE, word));
     };
-    if !options.get_flag("text") {
+    if form != FileForm::Text {
         return Err(wrong(alloc, NEEDS_TEXT));
     }
     let given = RecordAttributes {
