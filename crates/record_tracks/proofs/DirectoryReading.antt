@@ -1,24 +1,20 @@
 -- The data of one block, where it stands among others.
 use Rattle.std.proofs.Common.{◌≡◌, ◌∙◌, ap, refl, ℕ, ◌+◌, ◌-◌, ◌*◌, ◌/◌, ◌%◌, ◌≤◌, ◌<◌, List, [], ◌∷◌, ◌++◌, length, drop, get_or, arith}
-use Rattle.std.proofs.Common.{replicate, All, length-append, append_assoc, slice_index, sym, zero, suc, map, take, ◌⊎◌, ⊎_elim, inl, inr}
+use Rattle.std.proofs.Common.{replicate, All, length-append, append_assoc, slice_index, sym, zero, suc, map, take, ⊎_elim, inl, inr}
 use Rattle.std.proofs.Common.{length-drop, zero-add, append-nil}
 use Rattle.std.specs.List.{concat}
 use Rattle.std.proofs.lemmas.List.{get_or-append-add, get_or-take, drop_at, length-take, length-take-le, length-replicate, take-append-le}
-use Rattle.std.proofs.lemmas.List.{drop-append-le, take-map, drop-map, take-append-drop, take_all, length-map}
+use Rattle.std.proofs.lemmas.List.{drop-append-le, take-map, drop-map, take-append-drop, take_all, length-map, Folds.concat-append}
 use Rattle.std.proofs.lemmas.List.Elements.{All-get_or, All-head, All-tail, All-take, All-drop}
+use Rattle.std.proofs.lemmas.Bool.{cases_lt}
 use Rattle.record_tracks.specs.Directory.{going_in, in_block, used_by, key_of, block_front, block_of, behind_block, left_behind, blocks_of}
-use Rattle.record_tracks.specs.Directory.{data_of}
-use Rattle.record_tracks.specs.Filled.{filled}
+use Rattle.record_tracks.specs.{Directory.data_of, Filled.filled, DirectoryReadBack.these_entries, DirectoryReadBack.IsReadBack}
+use Rattle.record_tracks.specs.Entries.{EntryContents, entry_bytes, entry_read, all_entries, last_entry, IsEntry}
 use Rattle.record_tracks.proofs.Going.{IsShort, goes_in, some_fit, length-all, length-entry, entries_short, all_left, one_behind}
 use Rattle.record_tracks.proofs.Steps.{HasBlock, one_step, begins, passes, enters, entry_stands, last_stands}
-use Rattle.std.proofs.lemmas.Bool.{cases_lt}
-use Rattle.std.proofs.lemmas.List.Folds.{concat-append}
-use Rattle.volume_labels.specs.declared.directories.DirectoryEntry.{DirectoryEntry}
-use Rattle.volume_labels.specs.declared.directories.DirectoryStep.{DirectoryStep}
+use Rattle.volume_labels.specs.declared.directories.{DirectoryEntry.DirectoryEntry, DirectoryStep.DirectoryStep}
 use Rattle.volume_labels.specs.declared.directories.DirectoryStep.TheVariants.{Entry, End}
 use Rattle.volume_labels.specs.Directories.{step_at, entries_from, from_step, Found, and_more}
-use Rattle.record_tracks.specs.Entries.{EntryContents, entry_bytes, entry_read, all_entries, last_entry, IsEntry}
-use Rattle.record_tracks.specs.DirectoryReadBack.{these_entries, IsReadBack}
 
 pub block_made : (left : List (List ℕ)) → 1 ≤ length left → block_of left ≡ filled 264 (block_front (in_block left))
 block_made [] some = absurd (omega (arith, some))
@@ -123,35 +119,20 @@ module _ (bytes : List ℕ) (k used : ℕ) (has : HasBlock bytes k used) where
 -- behind its last entry a block is passed by one step more, where it is not full
 passed : (bytes : List ℕ) (k used most more : ℕ) → HasBlock bytes k used → more + 1 ≤ most
     → (m : ℕ) × (more ≤ m) × (entries_from most bytes (256 * k + used) ≡ entries_from m bytes (256 * (k + 1)))
-passed bytes k used most more has fuel = by (cases_lt used 256)
-  where
-    by : (used < 256) ⊎ (256 ≤ used)
-        → (m : ℕ) × (more ≤ m) × (entries_from most bytes (256 * k + used) ≡ entries_from m bytes (256 * (k + 1)))
-    by (inl short) =
-        let n : most ≡ suc (most - 1) = omega arith in
-        let next : 256 * k + 256 ≡ 256 * (k + 1) = omega arith in (
-          most - 1,
-          omega arith,
-          cc (
-            one_step bytes (most - 1) (256 * k + used),
-            passes bytes k used (256 * k + used) has (omega arith) (omega arith) (omega arith) (omega arith),
-          ),
-        )
-    by (inr full) = let next : 256 * k + used ≡ 256 * (k + 1) = omega arith in (most, omega arith, ap (entries_from most bytes) next)
+passed bytes k used most more has fuel = elim (cases_lt used 256) [
+  | inl short ↦
+      let n : most ≡ suc (most - 1) = omega arith in
+      let next : 256 * k + 256 ≡ 256 * (k + 1) = omega arith in
+      let over = passes bytes k used (256 * k + used) has (omega arith) (omega arith) (omega arith) (omega arith) in
+      (most - 1, omega arith, cc (one_step bytes (most - 1) (256 * k + used)))
+  | inr full ↦ let next : 256 * k + used ≡ 256 * (k + 1) = omega arith in (most, omega arith, ap (entries_from most bytes) next)
+]
 
 -- The entries of a directory, from the block that begins with the first of them on.
 abbrev Reads : (blocks : ℕ) → Type 0
 Reads blocks = (k : ℕ) (es : List EntryContents) (front behind : List ℕ) (most : ℕ) → All IsEntry es → length front ≡ 256 * k
     → left_behind (all_entries es) blocks ≡ [] → 256 * blocks ≤ most
     → entries_from most (front ++ (data_of (blocks_of (all_entries es) blocks) ++ behind)) (256 * k) ≡ these_entries es
-
-pub no_blocks : (left : List (List ℕ)) → blocks_of left 0 ≡ []
-unfolding blocks_of
-no_blocks left = refl
-
-pub more_blocks : (left : List (List ℕ)) (n : ℕ) → blocks_of left (suc n) ≡ block_of left ∷ blocks_of (behind_block left) n
-unfolding blocks_of
-more_blocks left n = refl
 
 -- all entries of those that are left, where some of them go into a block
 module _ (es : List EntryContents) (g : ℕ) (within : g ≤ length es) where
@@ -194,7 +175,8 @@ module _ (n : ℕ) (later : Reads n) (k : ℕ) (es : List EntryContents) (front 
   bytes = standing left (entries_short es each) some front rest k is_at
 
   bytes_is : front ++ (data_of (blocks_of left (suc n)) ++ behind) ≡ bytes
-  bytes_is = cc (more_blocks left n, append_assoc (drop 8 (block_of left)) (data_of (blocks_of (behind_block left) n)) behind)
+  unfolding blocks_of
+  bytes_is = cc (append_assoc (drop 8 (block_of left)) (data_of (blocks_of (behind_block left) n)) behind)
 
   abbrev size : ℕ
   size = used_by (in_block left)
@@ -209,8 +191,7 @@ module _ (n : ℕ) (later : Reads n) (k : ℕ) (es : List EntryContents) (front 
   length-head = omega (arith, length-append front (size / 256 ∷ size % 256 ∷ []))
 
   begun : (m : ℕ) → most ≡ suc m → entries_from most bytes (256 * k) ≡ entries_from m bytes (256 * k + 2)
-  begun m is = ap (λ (j : ℕ). entries_from j bytes (256 * k)) is ∙ one_step bytes m (256 * k)
-      ∙ ap (λ (s : DirectoryStep). from_step s (entries_from m bytes)) (begins bytes k size (256 * k) has (omega arith) (omega arith) refl)
+  begun m is = rw (is, one_step bytes m (256 * k), begins bytes k size (256 * k) has (omega arith) (omega arith) refl) refl
 
   -- Entries that begin the block, and what stands behind them in it.
   walked : (ps : List EntryContents) (end : List ℕ) (m : ℕ) → All IsEntry ps → concat (in_block left) ≡ bytes_of ps ++ end
@@ -290,15 +271,11 @@ pub length-block : (left : List (List ℕ)) → All IsShort left → length (blo
 length-block left short = omega (arith, length-each left short, length-drop 8 (block_of left))
 
 length-data_of : (left : List (List ℕ)) (n : ℕ) → All IsShort left → length (data_of (blocks_of left n)) ≡ 256 * n
-length-data_of left zero short = ap (λ (bs : List (List ℕ)). length (data_of bs)) (no_blocks left)
+unfolding blocks_of
+length-data_of left zero short = refl
 length-data_of left (suc n) short =
-    let others = data_of (blocks_of (behind_block left) n) in ap (λ (bs : List (List ℕ)). length (data_of bs)) (more_blocks left n)
-    ∙ omega (
-      arith,
-      length-append (drop 8 (block_of left)) others,
-      length-each left short,
-      length-data_of (behind_block left) n (All-drop IsShort (going_in 2 left) left short),
-    )
+    let later = length-data_of (behind_block left) n (All-drop IsShort (going_in 2 left) left short) in
+    omega (arith, length-append (drop 8 (block_of left)) (data_of (blocks_of (behind_block left) n)), length-each left short)
 
 pub read_back : (entries : List EntryContents) (blocks : ℕ) → All IsEntry entries → left_behind (all_entries entries) blocks ≡ []
     → IsReadBack entries blocks

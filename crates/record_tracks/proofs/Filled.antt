@@ -21,6 +21,3 @@ begun s0 s1 s2 bytes zeros puts =
     let none : length s0 ≡ length s0 - 0 = omega arith in
     put_behind (length s0) s1 s2 [] bytes 0 puts (ap length zeros ∙ length-replicate (length s0) 0) refl
     (cc)
-
-pub track_spelled : (home r0 blocks end : List ℕ) → ((home ++ r0) ++ blocks) ++ end ≡ home ++ ((r0 ++ blocks) ++ end)
-track_spelled home r0 blocks end = simp append_assoc

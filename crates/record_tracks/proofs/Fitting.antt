@@ -1,20 +1,12 @@
 -- How many records go on a track, and how many bytes they take there.
-use Rattle.std.proofs.Common.{◌≡◌, ap, refl, inl, inr, ⊎_elim, ◌⊎◌, ℕ, zero, suc, ◌+◌, ◌-◌, ◌*◌, ◌≤◌, ◌<◌, true, false}
-use Rattle.std.proofs.Common.{List, [], ◌∷◌, length, take, drop, get_or, nat_le, sum_by, arith, ◌≢◌, All, drop-drop, length-drop}
-use Rattle.std.proofs.lemmas.Bool.{cases_lt}
-use Rattle.std.proofs.lemmas.Bool.Decides.{nat_tests}
-use Rattle.std.proofs.lemmas.List.{drop_more, drop_all}
+use Rattle.std.proofs.Common.{◌≡◌, ap, refl, inl, inr, ⊎_elim, ◌⊎◌, ℕ, zero, suc, ◌+◌, ◌-◌, ◌*◌, ◌≤◌, ◌<◌, true, false, List, [], ◌∷◌}
+use Rattle.std.proofs.Common.{length, take, drop, get_or, nat_le, sum_by, arith, ◌≢◌, All, drop-drop, length-drop}
+use Rattle.std.proofs.lemmas.{Bool.cases_lt, Bool.Decides.nat_tests, List.drop_more, List.drop_all, List.Elements.All-get_or}
 use Rattle.std.proofs.lemmas.List.Sums.{sum_by-cons}
-use Rattle.ckd_track.specs.declared.model.DriveModel.{DriveModel}
-use Rattle.ckd_track.specs.declared.model.DriveModel.TheVariants.{D2311, D2314}
+use Rattle.ckd_track.specs.declared.model.DriveModel.{DriveModel, TheVariants.D2311, TheVariants.D2314}
 use Rattle.ckd_track.specs.Model.{capacity_of}
 use Rattle.record_tracks.specs.Records.{Areas, GoesOn, charge_for, last_charge_for, end_of_file}
 use Rattle.record_tracks.specs.Tracks.{fitting, fitting_on, behind_track, left_behind}
-use Rattle.std.proofs.lemmas.List.Elements.{All-get_or}
-
-pub none_fits : (model : DriveModel) (taken : ℕ) → fitting model taken [] ≡ 0
-unfolding fitting
-none_fits model taken = refl
 
 module _ (model : DriveModel) (taken : ℕ) (a : Areas) (others : List Areas) where
   pub one_fits : taken + last_charge_for model a ≤ capacity_of model
@@ -75,17 +67,14 @@ module _ (model : DriveModel) (taken : ℕ) (a : Areas) (others : List Areas) wh
       }
 
 pub fits_on : (model : DriveModel) (taken : ℕ) (areas : List Areas) → FitsOn model taken areas (fitting model taken areas)
-fits_on model taken [] =
-    rw (none_fits model taken) (record { within = omega arith; few = omega arith; room = λ h. omega arith; none = λ _. refl })
-fits_on model taken (a ∷ others) =
-    by (cases_lt (capacity_of model) (taken + last_charge_for model a)) (fits_on model (taken + charge_for model a) others)
-  where
-    by : (capacity_of model < taken + last_charge_for model a) ⊎ (taken + last_charge_for model a ≤ capacity_of model)
-        → FitsOn model (taken + charge_for model a) others (fitting model (taken + charge_for model a) others)
-        → FitsOn model taken (a ∷ others) (fitting model taken (a ∷ others))
-    by (inl over) more = rw (is_full model taken a others over)
-        (record { within = omega arith; few = omega arith; room = λ h. omega arith; none = λ _. refl })
-    by (inr fits) more = rw (one_fits model taken a others fits) (one_on model taken a others _ fits more)
+unfolding fitting
+fits_on model taken [] = record { within = omega arith; few = omega arith; room = λ h. omega arith; none = λ _. refl }
+fits_on model taken (a ∷ others) = elim (cases_lt (capacity_of model) (taken + last_charge_for model a)) [
+  | inl over ↦ rw (is_full model taken a others over)
+      (record { within = omega arith; few = omega arith; room = λ h. omega arith; none = λ _. refl })
+  | inr fits ↦ rw (one_fits model taken a others fits)
+      (one_on model taken a others _ fits (fits_on model (taken + charge_for model a) others))
+]
 
 -- A loop over records that has passed so many, which have taken so much of the track.
 module _ (model : DriveModel) (left : List Areas) (k taken : ℕ) (d : Areas)
@@ -101,12 +90,15 @@ module _ (model : DriveModel) (left : List Areas) (k taken : ℕ) (d : Areas)
   goes_on there within = omega (arith, next_is there, one_fits model taken (get_or left k d) (drop (k + 1) left) within)
 
   pub ends : length left ≤ k → k ≡ fitting_on model left
-  ends all =
-      let none : fitting model taken (drop k left) ≡ 0 = cc (drop_all k left all, none_fits model taken) in omega (arith, so_far)
+  unfolding fitting
+  ends all = let none : fitting model taken (drop k left) ≡ 0 = cc (drop_all k left all) in omega (arith, so_far)
 
 -- one at least goes on an empty track
 pub some_fits : (model : DriveModel) (a : Areas) (others : List Areas) → GoesOn model a → 1 ≤ fitting_on model (a ∷ others)
 some_fits model a others goes = omega (arith, one_fits model 0 a others (omega arith))
+
+pub some_left : {X : Type 0} (all : List X) (next : ℕ) → next < length all → drop next all ≢ []
+some_left all next there none = omega (arith, ap length none, length-drop next all)
 
 pub none_behind : (model : DriveModel) (areas : List Areas) → left_behind model areas 0 ≡ areas
 unfolding left_behind
@@ -125,9 +117,6 @@ module _ (model : DriveModel) (all : List Areas) (next : ℕ) where
       let some = some_fits model a (drop (next + 1) all) (All-get_or (GoesOn model) all next end_of_file there each) in
       omega (arith, some, ap (fitting_on model) (drop_more all next end_of_file there))
 
-  pub some_left : next < length all → drop next all ≢ []
-  some_left there none = omega (arith, ap length none, length-drop next all)
-
   -- what is left behind one track more
   pub one_more : (tracks : ℕ) → drop next all ≡ left_behind model all tracks
       → drop (next + fitting_on model (drop next all)) all ≡ left_behind model all (tracks + 1)
@@ -136,11 +125,12 @@ module _ (model : DriveModel) (all : List Areas) (next : ℕ) where
       cc (drop-drop (fitting_on model (drop next all)) next all, one_behind model all tracks)
 
 -- no more is left behind more tracks
-pub left_shrinks : (model : DriveModel) (areas : List Areas) (i d : ℕ)
-    → length (left_behind model areas (i + d)) ≤ length (left_behind model areas i)
-left_shrinks model areas i zero = let e : i + 0 ≡ i = omega arith in omega (arith, ap (λ (j : ℕ). length (left_behind model areas j)) e)
-left_shrinks model areas i (suc d) =
-    let e : i + suc d ≡ suc (i + d) = omega arith in
-    let left = left_behind model areas (i + d) in
-    let two = ap (λ (j : ℕ). length (left_behind model areas j)) e in
-    omega (arith, ap length (one_behind model areas (i + d)), length-drop (fitting_on model left) left, left_shrinks model areas i d)
+pub left_shrinks : (model : DriveModel) (areas : List Areas) (i j : ℕ) → i ≤ j
+    → length (left_behind model areas j) ≤ length (left_behind model areas i)
+left_shrinks model areas i zero within = let e : i ≡ 0 = omega arith in rw e (omega arith)
+left_shrinks model areas i (suc j) within = elim (cases_lt j i) [
+  | inl over ↦ let e : i ≡ suc j = omega arith in rw e (omega arith)
+  | inr under ↦
+      let left = left_behind model areas j in
+      omega (arith, ap length (one_behind model areas j), length-drop (fitting_on model left) left, left_shrinks model areas i j under)
+]

@@ -1,13 +1,9 @@
 -- Characters are looked up in code page 037.
 use Rattle.std.proofs.Common.{◌≡◌, ◌≤◌, ◌+◌, ℕ, zero, suc, ◌==◌, nat_lt, true, false, List, map, refl, arith, replicate, zero-add, add-one}
 use Rattle.std.proofs.Common.{Option, Some, None, position, is_some, if◌then◌else◌}
-use Rattle.std.specs.List.{list_all, range_with_len}
-use Rattle.std.specs.Prelude.{slice_index_or, slice_set}
-use Rattle.std.proofs.lemmas.List.{get_or-map}
-use Rattle.std.proofs.lemmas.List.FromFn.{get_or-range_with_len, length-range_with_len}
-use Rattle.std.proofs.lemmas.List.Quantifiers.{position-Some}
-use Rattle.std.proofs.lemmas.List.Sums.{AllPass-from_list_all}
-use Rattle.std.proofs.lemmas.Bool.{ltb-true, eqb-true}
+use Rattle.std.specs.{List.list_all, List.range_with_len, Prelude.slice_index_or, Prelude.slice_set}
+use Rattle.std.proofs.lemmas.List.{get_or-map, FromFn.get_or-range_with_len, FromFn.length-range_with_len, Sums.AllPass-from_list_all}
+use Rattle.std.proofs.lemmas.{List.Quantifiers.position-Some, Bool.ltb-true, Bool.eqb-true}
 use Rattle.volume_labels.specs.Ebcdic.{character_of, code_page_037}
 use Rattle.record_tracks.specs.Codes.{code_of, IsTable}
 

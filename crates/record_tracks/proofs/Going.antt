@@ -1,17 +1,13 @@
 -- The entries of a directory, one behind another.
-use Rattle.std.proofs.Common.{◌≡◌, ◌∙◌, ap, subst, ℕ, ◌+◌, ◌≤◌, ◌<◌, List, [], ◌∷◌, length, map, get_or, arith, All, length-append}
-use Rattle.std.proofs.Common.{refl, zero, suc, ◌++◌, take, drop, nat_le, true, false, ◌⊎◌, inl, inr, append-nil, ◌≢◌, drop-drop}
-use Rattle.std.proofs.Common.{length-drop}
+use Rattle.std.proofs.Common.{◌≡◌, ◌∙◌, ap, subst, ℕ, ◌+◌, ◌≤◌, ◌<◌, List, [], ◌∷◌, length, map, get_or, arith, All, length-append, refl}
+use Rattle.std.proofs.Common.{zero, suc, ◌++◌, take, drop, nat_le, true, false, inl, inr, append-nil, drop-drop}
 use Rattle.std.proofs.lemmas.List.{get_or_append_left, get_or_push, get_or-map, length-map, drop_more, drop_all, take_more}
 use Rattle.std.proofs.lemmas.List.Elements.{All-nil, All-cons, All-head, All-tail, All-get_or}
-use Rattle.record_tracks.specs.declared.entries.NewEntry.{NewEntry}
+use Rattle.std.proofs.lemmas.{Bool.cases_lt, Bool.Decides.nat_tests, List.Folds.concat-append}
 use Rattle.record_tracks.specs.Entries.{EntryContents, contents_of, all_contents, entry_bytes, entry_front, all_entries, last_entry}
-use Rattle.record_tracks.specs.Entries.{IsEntry}
-use Rattle.std.specs.List.{concat}
-use Rattle.std.proofs.lemmas.Bool.{cases_lt}
-use Rattle.std.proofs.lemmas.Bool.Decides.{nat_tests}
-use Rattle.std.proofs.lemmas.List.Folds.{concat-append}
+use Rattle.record_tracks.specs.{declared.entries.NewEntry.NewEntry, Entries.IsEntry}
 use Rattle.record_tracks.specs.Directory.{going_in, used_by, behind_block, left_behind}
+use Rattle.std.specs.List.{concat}
 
 pub length-all : (entries : List EntryContents) → length (all_entries entries) ≡ length entries + 1
 length-all entries = omega (arith, length-append (map entry_bytes entries) (last_entry ∷ []), length-map entries entry_bytes)
@@ -51,17 +47,13 @@ pub record IsShort (e : List ℕ) : Type 0 where
   pub least : 12 ≤ length e
   pub most : length e ≤ 74
 
-short_entry : (e : EntryContents) → IsEntry e → IsShort (entry_bytes e)
-short_entry e is = record { least = omega (arith, length-entry e is); most = omega (arith, length-entry e is) }
-
 pub entries_short : (entries : List EntryContents) → All IsEntry entries → All IsShort (all_entries entries)
 entries_short [] each = All-cons IsShort last_entry [] (record { least = omega arith; most = omega arith }) (All-nil IsShort)
-entries_short (e ∷ others) each = All-cons IsShort (entry_bytes e) (all_entries others) (short_entry e (All-head IsEntry e others each))
+entries_short (e ∷ others) each =
+    let is = All-head IsEntry e others each in
+    let size = length-entry e is in
+    All-cons IsShort (entry_bytes e) (all_entries others) (record { least = omega arith; most = omega arith })
     (entries_short others (All-tail IsEntry e others each))
-
-pub none_goes : (used : ℕ) → going_in used [] ≡ 0
-unfolding going_in
-none_goes used = refl
 
 module _ (used : ℕ) (e : List ℕ) (others : List (List ℕ)) where
   pub one_goes : used + length e ≤ 256 → going_in used (e ∷ others) ≡ suc (going_in (used + length e) others)
@@ -78,16 +70,15 @@ pub record GoesIn (used : ℕ) (entries : List (List ℕ)) (n : ℕ) : Type 0 wh
   pub room : used ≤ 256 → used + length (concat (take n entries)) ≤ 256
 
 pub goes_in : (used : ℕ) (entries : List (List ℕ)) → GoesIn used entries (going_in used entries)
-goes_in used [] = rw (none_goes used) (record { within = omega arith; room = λ h. omega arith })
-goes_in used (e ∷ others) = by (cases_lt 256 (used + length e)) (goes_in (used + length e) others)
-  where
-    by : (256 < used + length e) ⊎ (used + length e ≤ 256) → GoesIn (used + length e) others (going_in (used + length e) others)
-        → GoesIn used (e ∷ others) (going_in used (e ∷ others))
-    by (inl over) more = rw (is_full used e others over) (record { within = omega arith; room = λ h. omega arith })
-    by (inr fits) more = rw (one_goes used e others fits) (record {
-      within = omega (arith, more.within);
-      room = λ _. omega (arith, more.room fits, length-append e (concat (take (going_in (used + length e) others) others)));
-    })
+unfolding going_in
+goes_in used [] = record { within = omega arith; room = λ h. omega arith }
+goes_in used (e ∷ others) = let more = goes_in (used + length e) others in elim (cases_lt 256 (used + length e)) [
+  | inl over ↦ rw (is_full used e others over) (record { within = omega arith; room = λ h. omega arith })
+  | inr fits ↦ rw (one_goes used e others fits) (record {
+    within = omega (arith, more.within);
+    room = λ _. omega (arith, more.room fits, length-append e (concat (take (going_in (used + length e) others) others)));
+  })
+]
 
 -- A loop over entries that has passed so many, with so many bytes of the block used by them.
 module _ (left : List (List ℕ)) (k used : ℕ) (so_far : going_in 2 left ≡ k + going_in used (drop k left)) where
@@ -102,8 +93,8 @@ module _ (left : List (List ℕ)) (k used : ℕ) (so_far : going_in 2 left ≡ k
   goes_on there fits = omega (arith, next_is there, one_goes used (get_or left k []) (drop (k + 1) left) fits)
 
   pub ends : length left ≤ k → k ≡ going_in 2 left
-  ends all =
-      let none : going_in used (drop k left) ≡ 0 = cc (drop_all k left all, none_goes used) in omega (arith, so_far)
+  unfolding going_in
+  ends all = let none : going_in used (drop k left) ≡ 0 = cc (drop_all k left all) in omega (arith, so_far)
 
 -- the bytes of one entry more
 pub concat_more : (left : List (List ℕ)) (k : ℕ) → k < length left → concat (take (k + 1) left) ≡ concat (take k left) ++ get_or left k []
@@ -135,8 +126,9 @@ unfolding left_behind
 one_behind entries n = refl
 
 pub none_left : (n : ℕ) → left_behind [] n ≡ []
-none_left zero = all_left []
-none_left (suc n) = cc (one_behind [] n, none_goes 2, none_left n)
+unfolding going_in left_behind
+none_left zero = refl
+none_left (suc n) = none_left n
 
 module _ (all : List (List ℕ)) (next : ℕ) where
   -- a block takes one at least
@@ -145,9 +137,6 @@ module _ (all : List (List ℕ)) (next : ℕ) where
       let e = get_or all next [] in
       let short = (All-get_or IsShort all next [] there each).most in
       let some = some_goes e (drop (next + 1) all) (omega arith) in omega (arith, ap (going_in 2) (drop_more all next [] there))
-
-  pub some_left : next < length all → drop next all ≢ []
-  some_left there none = omega (arith, ap length none, length-drop next all)
 
   -- what is left behind one block more
   pub one_more : (blocks : ℕ) → ((n : ℕ) → left_behind all (blocks + n) ≡ left_behind (drop next all) n)

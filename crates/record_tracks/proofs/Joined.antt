@@ -1,18 +1,12 @@
 -- The records of lines, one after another.
-use Rattle.std.proofs.Common.{◌≡◌, ◌∙◌, ◌<◌, ◌≤◌, ◌+◌, ◌-◌, ℕ, Bool, true, false, cond, List, [], ◌∷◌, ◌++◌, length, append_assoc}
+use Rattle.std.proofs.lemmas.{Bool.cases_Bool, Bool.lt-ltb, Bool.le-ltb, List.take_all, Str.is_utf8-from_IsUtf8, Str.IsUtf8-from_is_utf8}
+use Rattle.std.proofs.Common.{⊎_elim, ◌≡◌, ◌∙◌, ◌<◌, ◌≤◌, ◌+◌, ◌-◌, ℕ, true, cond, List, [], ◌∷◌, ◌++◌, length, append_assoc}
 use Rattle.std.proofs.Common.{append-nil, ap, refl, sym, arith, Some, None, Result, Ok, Err, replicate, length-append, take}
 use Rattle.std.specs.Str.{is_utf8, chars, IsUtf8}
-use Rattle.std.proofs.lemmas.List.{take_all}
-use Rattle.std.proofs.lemmas.Bool.{lt-ltb, le-ltb}
-use Rattle.std.proofs.lemmas.Str.{is_utf8-from_IsUtf8, IsUtf8-from_is_utf8}
-use Rattle.record_tracks.specs.declared.text_faults.TextLineFault.{TextLineFault}
-use Rattle.record_tracks.specs.declared.text_faults.TextLineFault.TheVariants.{TooLong, NoCharacter}
-use Rattle.record_tracks.specs.declared.text_faults.TextRecordsFault.{TextRecordsFault}
-use Rattle.record_tracks.specs.declared.text_faults.TextRecordsFault.TheVariants.{Line}
-use Rattle.record_tracks.specs.Codes.{codes_of, line_codes}
-use Rattle.record_tracks.specs.Lines.{lines_of}
+use Rattle.record_tracks.specs.declared.text_faults.TextLineFault.{TextLineFault, TheVariants.TooLong, TheVariants.NoCharacter}
+use Rattle.record_tracks.specs.declared.text_faults.TextRecordsFault.{TextRecordsFault, TheVariants.Line}
+use Rattle.record_tracks.specs.{Codes.codes_of, Codes.line_codes, Lines.lines_of, Putting.PutsCodes, Putting.PutsRecord}
 use Rattle.record_tracks.specs.TextRecords.{padded, record_with, record_of, and_records, records_from, records_of}
-use Rattle.record_tracks.specs.Putting.{PutsCodes, PutsRecord}
 
 -- these records before others, if there are such
 abbrev pub joined : List ℕ → Result (List ℕ) TextRecordsFault → Result (List ℕ) TextRecordsFault
@@ -30,15 +24,6 @@ same (Err f) = refl
 pub none_joined : (size : ℕ) (text : List ℕ) → JoinedTo size text 0 text []
 none_joined size text = same (records_from size 1 (lines_of text))
 
-one : (size number : ℕ) (l : List ℕ) (ls : List (List ℕ))
-    → records_from size number (l ∷ ls) ≡ and_records number (record_of size l) (records_from size (number + 1) ls)
-unfolding records_from
-one size number l ls = refl
-
-none_left : (size number : ℕ) → records_from size number (lines_of []) ≡ Ok []
-unfolding records_from lines_of
-none_left size number = refl
-
 shifted : (number : ℕ) (bytes record_bytes : List ℕ) (r : Result (List ℕ) TextRecordsFault)
     → joined bytes (and_records number (Ok record_bytes) r) ≡ joined (bytes ++ record_bytes) r
 shifted number bytes record_bytes (Ok l) = ap Ok (sym (append_assoc bytes record_bytes l))
@@ -48,7 +33,8 @@ module _ (size : ℕ) (text : List ℕ) (number : ℕ) (rest line after bytes : 
     (split : lines_of rest ≡ line ∷ lines_of after) where
   next : records_of size text ≡ joined bytes (and_records (number + 1) (record_of size line)
       (records_from size (number + 1 + 1) (lines_of after)))
-  next = cc (one size (number + 1) line (lines_of after))
+  unfolding records_from
+  next = h ∙ ap (λ ls. joined bytes (records_from size (number + 1) ls)) split
 
   -- one line more
   pub one_joined : (now : List ℕ) → PutsRecord (record_of size line) bytes now None → JoinedTo size text (number + 1) after now
@@ -61,23 +47,20 @@ module _ (size : ℕ) (text : List ℕ) (number : ℕ) (rest line after bytes : 
 -- all lines are records
 pub all_joined : (size : ℕ) (text : List ℕ) (number : ℕ) (rest bytes : List ℕ) → rest ≡ [] → JoinedTo size text number rest bytes
     → records_of size text ≡ Ok bytes
-all_joined size text number rest bytes empty h = cc (none_left size (number + 1), append-nil bytes)
+unfolding records_from lines_of
+all_joined size text number rest bytes empty h =
+    h ∙ ap (λ r. joined bytes (records_from size (number + 1) (lines_of r))) empty ∙ ap Ok (append-nil bytes)
 
 -- The record of one line.
 module _ (size : ℕ) (line : List ℕ) where
-  no_text : (t : Bool) → is_utf8 line ≡ t → line_codes line ≡ cond t (codes_of (chars line)) None
-  no_text t e = ap (λ t. cond t (codes_of (chars line)) None) e
-
   codes_are : IsUtf8 line → line_codes line ≡ codes_of (chars line)
-  codes_are is = no_text true (is_utf8-from_IsUtf8 line is)
+  codes_are is = ap (λ t. cond t (codes_of (chars line)) None) (is_utf8-from_IsUtf8 line is)
 
   -- a line that is not UTF-8
   pub not_utf8 : (IsUtf8 line → ⊥) → record_of size line ≡ Err NoCharacter
-  not_utf8 not_one = ap (record_with size) (go (is_utf8 line) refl)
-    where
-      go : (t : Bool) → is_utf8 line ≡ t → line_codes line ≡ None
-      go true e = absurd (not_one (IsUtf8-from_is_utf8 line e))
-      go false e = no_text false e
+  not_utf8 not_one = ap (record_with size)
+      (⊎_elim (λ e. absurd (not_one (IsUtf8-from_is_utf8 line e))) (ap (λ t. cond t (codes_of (chars line)) None))
+      (cases_Bool (is_utf8 line)))
 
   -- a line with a character that has no byte
   pub no_byte : IsUtf8 line → codes_of (chars line) ≡ None → record_of size line ≡ Err NoCharacter
@@ -111,7 +94,6 @@ module _ (size : ℕ) (line text before now : List ℕ) (is : IsUtf8 line) (same
   is_filled after n short end e = (
     padded size put.0,
     is_record size line put.0 is codes_there (omega (arith, many)),
-    e ∙ ap (λ l. l ++ replicate (n - length now) 0x40) (take_all n now (omega (arith, many)))
-        ∙ ap (λ n. now ++ replicate n 0x40) {y = size - length put.0} (omega (arith, many))
-        ∙ ap (λ l. l ++ replicate (size - length put.0) 0x40) put.2 ∙ append_assoc before put.0 (replicate (size - length put.0) 0x40),
+    (let left : n - length now ≡ size - length put.0 = omega (arith, many) in
+        cc (take_all n now (omega (arith, many)), append_assoc before put.0 (replicate (size - length put.0) 0x40))),
   )

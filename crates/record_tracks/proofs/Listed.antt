@@ -1,15 +1,12 @@
 -- Records that go on tracks.
 use Rattle.std.proofs.Common.{◌≡◌, ℕ, ◌≤◌, List, [], length, true, arith, ◌∙◌, ap, sym, subst, ◌+◌, ◌-◌, ◌<◌, drop, get_or, All}
 use Rattle.std.proofs.Common.{length-drop, ◌∷◌, ◌++◌, take, sum_by}
-use Rattle.std.proofs.lemmas.Bool.Decides.{nat_tests}
-use Rattle.ckd_track.specs.declared.model.DriveModel.{DriveModel}
-use Rattle.ckd_track.specs.declared.model.DriveModel.TheVariants.{D2311, D2314}
+use Rattle.std.proofs.lemmas.{Bool.Decides.nat_tests, List.Elements.All-map, List.Sums.sum_by_push}
+use Rattle.std.proofs.lemmas.List.{get_or-drop, get_or-map, length-map, take_more, take-map, drop-map}
+use Rattle.ckd_track.specs.declared.model.DriveModel.{DriveModel, TheVariants.D2311, TheVariants.D2314}
 use Rattle.ckd_track.specs.Model.{capacity_of}
 use Rattle.record_tracks.specs.Records.{Areas, GoesOn, goes_on, end_of_file, areas_of, all_areas, RecordGoesOn, charge_for, balance_behind}
-use Rattle.std.proofs.lemmas.List.{get_or-drop, get_or-map, length-map, take_more, take-map, drop-map}
-use Rattle.std.proofs.lemmas.List.Elements.{All-map}
 use Rattle.record_tracks.specs.declared.records.NewRecord.{NewRecord}
-use Rattle.std.proofs.lemmas.List.Sums.{sum_by_push}
 
 -- a record without a key goes on a track that has room for its data, and so does an end of file
 pub keyless_goes : (model : DriveModel) (bytes : List ℕ) → length bytes ≤ capacity_of model

@@ -2,55 +2,37 @@
 use Rattle.std.proofs.Common.{◌≡◌, ◌∙◌, ap, sym, refl, subst, ℕ, ◌+◌, ◌*◌, ◌/◌, ◌≤◌, ◌<◌, List, [], ◌∷◌, ◌++◌, length, Bool, true, false}
 use Rattle.std.proofs.Common.{cond, nat_lt, map, take, drop, get_or, replicate, arith, All, append_assoc, length-append, length-take}
 use Rattle.std.proofs.Common.{length-drop, inl, inr, ◌-◌, nat_le, None, Some}
-use Rattle.std.proofs.lemmas.Grind.{flat_map-append}
-use Rattle.std.proofs.lemmas.List.{drop_more, take-append-drop, get_or-map, map-append, length-replicate}
-use Rattle.std.proofs.lemmas.List.FromFn.{length-map-range_with_len, get_or-map-range_with_len}
+use Rattle.std.proofs.lemmas.List.{drop_more, take-append-drop, get_or-map, map-append, length-replicate, FromFn.length-map-range_with_len}
 use Rattle.std.proofs.lemmas.List.Elements.{All-nil, All-cons, All-head, All-tail, All-append, All-from_get_or}
-use Rattle.ckd_track.specs.declared.model.DriveModel.{DriveModel}
-use Rattle.ckd_track.specs.declared.model.DriveModel.TheVariants.{D2311, D2314}
-use Rattle.ckd_track.specs.Charges.{key_overhead_of}
-use Rattle.dasd_extract.specs.declared.blocks.ExtractedForm.TheVariants as form
-use Rattle.record_tracks.specs.declared.libraries.NewMember.{NewMember}
+use Rattle.std.proofs.lemmas.{Grind.flat_map-append, List.FromFn.get_or-map-range_with_len, Bool.Decides.nat_tests}
+use Rattle.ckd_track.specs.declared.model.DriveModel.{DriveModel, TheVariants.D2311, TheVariants.D2314}
+use Rattle.ckd_track.specs.{Charges.key_overhead_of, declared.geometries.Geometry.Geometry}
+use Rattle.record_tracks.specs.Library.{directory_area, directory_areas, with_end, member_areas, members_areas, library_areas, first_record}
+use Rattle.record_tracks.specs.declared.{libraries.NewMember.NewMember, records.NewRecord.NewRecord, libraries.NewLibrary.NewLibrary}
 use Rattle.record_tracks.specs.Records.{Areas, end_of_file, GoesOn, all_areas, RecordGoesOn}
-use Rattle.record_tracks.specs.ReadBack.{IsWritten, IsPart, IsLoaded}
+use Rattle.record_tracks.specs.{ReadBack.IsWritten, ReadBack.IsPart, ReadBack.IsLoaded, declared.library_faults.LibraryFault.LibraryFault}
+use Rattle.record_tracks.specs.{Tracks.StandsAt, LibraryRead.HasRecords, LibraryRead.IsDirectoryRead, LibraryRead.AreMembersRead}
+use Rattle.record_tracks.specs.{Library.blocks_of_member, Addresses.address_of, MemberEntries.blank_directory, MemberEntries.blank_areas}
+use Rattle.record_tracks.specs.{Library.MemberGoesOn, declared.addresses.Placed.Placed, Placed.AreRecords, Placed.ArePlaced}
 use Rattle.record_tracks.proofs.Listed.{end_goes, all_go, length-all}
-use Rattle.record_tracks.specs.Library.{directory_area, directory_areas, with_end, member_areas, members_areas, library_areas}
-use Rattle.record_tracks.specs.Library.{blocks_of_member, first_record, MemberGoesOn}
 use Rattle.record_tracks.proofs.Standing.{SameLengths, address_stands, is_taken, in_order, address_is}
-use Rattle.ckd_track.specs.declared.geometries.Geometry.{Geometry}
-use Rattle.volume_labels.specs.declared.fields.Extent.{Extent}
-use Rattle.volume_labels.specs.declared.fields.RelativeAddress.{RelativeAddress}
-use Rattle.record_tracks.specs.Tracks.{StandsAt}
-use Rattle.record_tracks.specs.Addresses.{address_of}
-use Rattle.record_tracks.specs.LibraryRead.{HasRecords, IsDirectoryRead, AreMembersRead}
 use Rattle.record_tracks.proofs.Reading.{read_back, read_as_data, first_stands}
-use Rattle.std.proofs.lemmas.Bool.Decides.{nat_tests}
-use Rattle.record_tracks.specs.declared.records.NewRecord.{NewRecord}
-use Rattle.record_tracks.specs.declared.addresses.Placed.{Placed}
-use Rattle.record_tracks.specs.declared.library_faults.LibraryFault.{LibraryFault}
-use Rattle.record_tracks.specs.declared.library_faults.LibraryFault.TheVariants as fault
-use Rattle.record_tracks.specs.declared.libraries.NewLibrary.{NewLibrary}
-use Rattle.record_tracks.specs.MemberEntries.{blank_directory, blank_areas}
-use Rattle.record_tracks.specs.Placed.{AreRecords, ArePlaced}
+use Rattle.volume_labels.specs.declared.fields.{Extent.Extent, RelativeAddress.RelativeAddress}
+use Rattle.dasd_extract.specs.declared.blocks.ExtractedForm.TheVariants as form
 
 -- The blocks of a directory.
 module _ (directory : List ℕ) where
   pub length-directory : length (directory_areas directory) ≡ length directory / 264
   length-directory = length-map-range_with_len (directory_area directory) 0 (length directory / 264)
 
-  block_is : (k : ℕ) → k < length (directory_areas directory)
-      → get_or (directory_areas directory) k end_of_file ≡ directory_area directory k
-  block_is k there = get_or-map-range_with_len (directory_area directory) 0 (length directory / 264) k k end_of_file
-      (omega (arith, length-directory)) (omega arith)
-
-  block_size : (k : ℕ) → k < length (directory_areas directory) → length (take 264 (drop (k * 264) directory)) ≡ 264
-  block_size k there = omega (arith, length-directory, length-take 264 (drop (k * 264) directory), length-drop (k * 264) directory)
-
   pub directory_written : All (IsWritten form.Directory) (directory_areas directory)
   directory_written = All-from_get_or (IsWritten form.Directory) (directory_areas directory) end_of_file (λ k there.
-      subst (IsWritten form.Directory) (sym (block_is k there)) (
+      let is = get_or-map-range_with_len (directory_area directory) 0 (length directory / 264) k k end_of_file
+      (omega (arith, length-directory)) (omega arith) in
       let b = take 264 (drop (k * 264) directory) in
-      let size = block_size k there in (omega (arith, length-take 8 b), omega (arith, length-drop 8 b))))
+      let size : length b ≡ 264 =
+      omega (arith, length-directory, length-take 264 (drop (k * 264) directory), length-drop (k * 264) directory) in
+      subst (IsWritten form.Directory) (sym is) (omega (arith, length-take 8 b), omega (arith, length-drop 8 b)))
 
 at_most : (b : Bool) (n : ℕ) → cond b n 0 ≤ n
 at_most true n = omega arith
@@ -245,15 +227,8 @@ block_there l m k there within =
     let two = end_there (blank_areas l) (drop k blocks) (first + k) (member_part (blank_directory l) l.members.now m there k within) in
     omega (arith, length-blank l)
 
-pub too_far : (n : ℕ) (f : LibraryFault) → 65536 ≤ n → Some f ≡ cond (nat_le 65536 n) (Some f) None
-too_far n f far = let is : nat_le 65536 n ≡ true = grind (arith, nat_tests) in rw is refl
-
-pub near : (n : ℕ) (f : LibraryFault) → n < 65536 → None ≡ cond (nat_le 65536 n) (Some f) None
-near n f below = let is : nat_le 65536 n ≡ false = grind (arith, nat_tests) in rw is refl
-
--- no address is too far, if that of the last record is not
-not_too_far : (n : ℕ) (f : LibraryFault) → cond (nat_le 65536 n) (Some f) None ≡ None → n < 65536
-not_too_far n f none = grind (arith, nat_tests)
+pub if_far : (n : ℕ) (f : LibraryFault) (b : Bool) → nat_le 65536 n ≡ b → cond b (Some f) None ≡ cond (nat_le 65536 n) (Some f) None
+if_far n f b is = ap (λ b. cond b (Some f) None) (sym is)
 
 module _ (p : Placed) (are : AreRecords p) where
   abbrev l : NewLibrary
@@ -281,15 +256,16 @@ last_track p are track number stands =
     let is = is_address p are (length p.records.now - 1) track number (omega (arith, length-blank_areas l)) stands in
     ap (λ (n : ℕ). (address_of p.model (blank_areas l) (n - 1)).track) (sym size) ∙ ap (λ (a : RelativeAddress). a.track) is
 
+-- no address is too far, if that of the last record is not
 pub is_near : (p : Placed) → ArePlaced p → (k track number : ℕ) → k < length p.records.now
     → StandsAt p.model (all_areas p.records.now) k track number → track < 65536
 is_near p placed k track number there stands =
     let areas = blank_areas p.library.now in
     let far = length areas - 1 in
     let last = address_of p.model areas far in
-    let size = length-records p placed.are in omega (
+    let size = length-records p placed.are in
+    let below : last.track < 65536 = grind (arith, nat_tests, placed.within) in omega (
       arith,
-      not_too_far last.track fault.TooManyTracks placed.within,
       in_order p.model areas k far track number last.track last.number
           (subst (λ (xs : List Areas). StandsAt p.model xs k track number) placed.are.records stands)
           (address_stands p.model areas (all_go_on p placed.are) far (omega arith)) (omega arith),

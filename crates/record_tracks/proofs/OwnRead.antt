@@ -2,38 +2,25 @@
 use Rattle.std.proofs.Common.{◌≡◌, ◌∙◌, ap, sym, refl, subst, ℕ, zero, suc, ◌+◌, ◌*◌, ◌/◌, ◌%◌, ◌≤◌, ◌<◌, List, [], ◌∷◌, ◌++◌, length, map}
 use Rattle.std.proofs.Common.{flat_map, take, drop, get_or, slice_index, arith, All, append_assoc, append-nil, length-append}
 use Rattle.std.specs.List.{concat, range_with_len}
-use Rattle.std.proofs.lemmas.List.{take_at, drop_at, length-replicate, length-take-le, get_or_append_left}
-use Rattle.std.proofs.lemmas.List.Concat.{get_or-flat_map}
+use Rattle.std.proofs.lemmas.List.{take_at, drop_at, length-replicate, length-take-le, get_or_append_left, Concat.get_or-flat_map}
 use Rattle.std.proofs.lemmas.List.Elements.{All-nil, All-cons, All-head, All-tail, All-drop}
 use Rattle.std.proofs.lemmas.List.Folds.{flat_map-map}
-use Rattle.ckd_track.specs.declared.model.DriveModel.{DriveModel}
-use Rattle.ckd_track.specs.declared.geometries.Geometry.{Geometry}
-use Rattle.volume_labels.specs.declared.fields.Extent.{Extent}
-use Rattle.volume_labels.specs.declared.fields.RelativeAddress.{RelativeAddress}
+use Rattle.ckd_track.specs.declared.{model.DriveModel.DriveModel, geometries.Geometry.Geometry}
+use Rattle.volume_labels.specs.declared.fields.{Extent.Extent, RelativeAddress.RelativeAddress}
 use Rattle.volume_labels.specs.Fields.{number_at, relative_address_at}
-use Rattle.dasd_extract.specs.Members as members
 use Rattle.dasd_extract.specs.Walk.{source_written}
-use Rattle.record_tracks.specs.Records.{Areas}
-use Rattle.record_tracks.specs.ReadBack.{ended_by_file}
-use Rattle.record_tracks.specs.ReadBack as tracks
-use Rattle.record_tracks.specs.Entries.{all_entries}
-use Rattle.record_tracks.specs.Directory.{going_in, blocks_of, left_behind, behind_block}
-use Rattle.record_tracks.specs.Directory as blocks
-use Rattle.record_tracks.specs.DirectoryFaults.{AreEntries}
-use Rattle.record_tracks.proofs.Going.{IsShort, entries_short}
-use Rattle.record_tracks.proofs.DirectoryReading.{no_blocks, more_blocks, length-block, read_back}
-use Rattle.record_tracks.specs.declared.libraries.MemberEntry.{MemberEntry}
-use Rattle.record_tracks.specs.declared.libraries.NewLibrary.{NewLibrary}
-use Rattle.record_tracks.specs.declared.libraries.MemberNote.{MemberNote}
-use Rattle.record_tracks.specs.Library.{directory_area, directory_areas, blocks_of_member, first_record, MemberGoesOn}
-use Rattle.record_tracks.specs.Addresses.{address_of}
 use Rattle.record_tracks.specs.MemberEntries.{blank_directory, blank_areas, block_address, note_bytes, entry_notes, entry_user_data}
-use Rattle.record_tracks.specs.MemberEntries.{directory_entries, directory_bytes}
+use Rattle.record_tracks.specs.{MemberEntries.directory_entries, MemberEntries.directory_bytes, declared.libraries.MemberEntry.MemberEntry}
+use Rattle.record_tracks.specs.{Records.Areas, Directory.going_in, Directory.blocks_of, Directory.left_behind, Directory.behind_block}
+use Rattle.record_tracks.specs.{ReadBack.ended_by_file, declared.libraries.NewLibrary.NewLibrary, declared.libraries.MemberNote.MemberNote}
+use Rattle.record_tracks.specs.{Entries.all_entries, DirectoryFaults.AreEntries, Addresses.address_of, Placed.Leads}
+use Rattle.record_tracks.specs.Library.{directory_area, directory_areas, blocks_of_member, first_record, MemberGoesOn}
 use Rattle.record_tracks.specs.LibraryRead.{HasRecords, own_areas, IsReadFrom, IsLibraryRead, directory_end, own_directory_end, HasEntries}
-use Rattle.record_tracks.specs.Placed.{Leads}
-use Rattle.record_tracks.proofs.Parted.{length-notes}
-use Rattle.record_tracks.proofs.Standing.{same_address}
-use Rattle.record_tracks.proofs.Members.{same_library, directory_read, members_read}
+use Rattle.record_tracks.proofs.{Going.IsShort, Going.entries_short, Members.same_library, Members.directory_read, Members.members_read}
+use Rattle.record_tracks.proofs.{DirectoryReading.length-block, DirectoryReading.read_back, Parted.length-notes, Standing.same_address}
+use Rattle.dasd_extract.specs.Members as members
+use Rattle.record_tracks.specs.ReadBack as tracks
+use Rattle.record_tracks.specs.Directory as blocks
 
 -- a block of a directory has 264 bytes
 abbrev IsWhole : List ℕ → Type 0
@@ -61,14 +48,15 @@ cut_again (b ∷ bs) front j each at =
     (sym (append_assoc front b (concat bs))) ∙ ap (λ (xs : List Areas). area_in b ∷ xs) others
 
 all_whole : (left : List (List ℕ)) (n : ℕ) → All IsShort left → All IsWhole (blocks_of left n)
-all_whole left zero short = subst (All IsWhole) (sym (no_blocks left)) (All-nil IsWhole)
-all_whole left (suc n) short = subst (All IsWhole) (sym (more_blocks left n))
-    (All-cons IsWhole (blocks.block_of left) (blocks_of (behind_block left) n) (length-block left short)
-    (all_whole (behind_block left) n (All-drop IsShort (going_in 2 left) left short)))
+unfolding blocks_of
+all_whole left zero short = All-nil IsWhole
+all_whole left (suc n) short = All-cons IsWhole (blocks.block_of left) (blocks_of (behind_block left) n) (length-block left short)
+    (all_whole (behind_block left) n (All-drop IsShort (going_in 2 left) left short))
 
 length-blocks : (left : List (List ℕ)) (n : ℕ) → length (blocks_of left n) ≡ n
-length-blocks left zero = ap length (no_blocks left)
-length-blocks left (suc n) = cc (more_blocks left n, length-blocks (behind_block left) n)
+unfolding blocks_of
+length-blocks left zero = refl
+length-blocks left (suc n) = ap suc (length-blocks (behind_block left) n)
 
 -- A library whose directory can have the entries.
 module _ (model : DriveModel) (l : NewLibrary) (goes : All (MemberGoesOn model) l.members.now)

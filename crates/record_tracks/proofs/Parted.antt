@@ -3,9 +3,7 @@ use Rattle.std.proofs.Common.{◌≡◌, ◌∙◌, ap, sym, refl, ℕ, ◌+◌,
 use Rattle.std.proofs.Common.{get_or, false, arith, length-append}
 use Rattle.std.proofs.lemmas.List.{drop_more, take_more, take_at, drop_at, map-append}
 use Rattle.ckd_track.specs.declared.model.DriveModel.{DriveModel}
-use Rattle.record_tracks.specs.declared.libraries.MemberEntry.{MemberEntry}
-use Rattle.record_tracks.specs.declared.libraries.NewLibrary.{NewLibrary}
-use Rattle.record_tracks.specs.declared.libraries.MemberNote.{MemberNote}
+use Rattle.record_tracks.specs.declared.libraries.{MemberEntry.MemberEntry, NewLibrary.NewLibrary, MemberNote.MemberNote}
 use Rattle.record_tracks.specs.Entries.{EntryContents}
 use Rattle.record_tracks.specs.MemberEntries.{block_address, note_bytes, entry_notes, entry_user_data, entry_contents}
 

@@ -1,29 +1,16 @@
 -- The records of a text on tracks are read as its lines.
-use Rattle.std.proofs.Common.{◌≡◌, ◌∙◌, ◌≤◌, ◌<◌, ◌+◌, ◌*◌, ◌==◌, ⊎_elim, ℕ, zero, suc, false, not, List, [], ◌∷◌, ◌++◌}
-use Rattle.std.proofs.Common.{length, map, take, drop, flat_map, ap, refl, sym, subst, arith, All, drop-drop, length-append, length-take}
-use Rattle.std.proofs.Common.{length-drop}
-use Rattle.std.proofs.Math.Bool.{and-false}
-use Rattle.std.proofs.lemmas.Bool.{le-ltb, cases_lt}
-use Rattle.std.proofs.lemmas.Nat.{mul-le}
-use Rattle.std.proofs.lemmas.List.{take-append-drop, drop_all}
-use Rattle.std.proofs.lemmas.List.Concat.{flat_map-append}
-use Rattle.std.proofs.lemmas.List.Elements.{All-map}
+use Rattle.std.proofs.Common.{◌≡◌, ◌∙◌, ◌≤◌, ◌<◌, ◌+◌, ◌*◌, ◌==◌, ⊎_elim, ℕ, zero, suc, false, not, List, [], ◌∷◌, length, map, take}
+use Rattle.std.proofs.Common.{drop, flat_map, ap, refl, arith, All, drop-drop, length-append, length-take, length-drop}
+use Rattle.std.proofs.{Math.Bool.and-false, lemmas.List.take-append-drop, lemmas.List.drop_all, lemmas.List.Concat.flat_map-append}
+use Rattle.std.proofs.lemmas.{Bool.le-ltb, Bool.cases_lt, Nat.mul-le, List.Elements.All-map}
 use Rattle.ckd_track.specs.declared.model.DriveModel.{DriveModel}
 use Rattle.volume_labels.specs.Layouts.{is_longer}
-use Rattle.dasd_extract.specs.declared.blocks.ExtractedForm.TheVariants.{Text}
-use Rattle.dasd_extract.specs.Written.{Written, these_bytes}
-use Rattle.dasd_extract.specs.Blocks.{number_of, records_written, form_written}
-use Rattle.record_tracks.specs.Records.{Areas}
-use Rattle.record_tracks.specs.Tracks.{record_with}
-use Rattle.record_tracks.specs.ReadBack.{IsWrittenAs}
-use Rattle.record_tracks.specs.declared.blocks.Cut.{Cut}
-use Rattle.record_tracks.specs.declared.blocks.Cut.TheVariants.{Length}
-use Rattle.record_tracks.specs.Blocks.{first_areas, rests_to, rests_of, block_areas, AreBlocks}
-use Rattle.record_tracks.proofs.Rests.{each_rest, none_left, one_more, length_fits}
-use Rattle.record_tracks.proofs.Texts.{read_as}
-use Rattle.record_tracks.specs.Lines.{lines_of}
-use Rattle.record_tracks.specs.Read.{ended, without_blanks}
-use Rattle.record_tracks.specs.Printed.{layout_of, IsPrinted}
+use Rattle.dasd_extract.specs.{declared.blocks.ExtractedForm.TheVariants.Text, Written.Written, Written.these_bytes}
+use Rattle.dasd_extract.specs.Blocks.{number_of, records_written}
+use Rattle.record_tracks.specs.{Records.Areas, Blocks.first_areas, Blocks.rests_to, Blocks.rests_of, Blocks.block_areas, Blocks.AreBlocks}
+use Rattle.record_tracks.specs.{Tracks.record_with, declared.blocks.Cut.TheVariants.Length, Printed.layout_of, Printed.IsPrinted}
+use Rattle.record_tracks.specs.{ReadBack.IsWrittenAs, declared.blocks.Cut.Cut, Lines.lines_of, Read.ended, Read.without_blanks}
+use Rattle.record_tracks.proofs.{Rests.each_rest, Rests.none_left, Rests.one_more, Rests.length_fits, Texts.read_as}
 use Rattle.record_tracks.proofs.TextReading.{AreRecords, are_records, read_as_lines}
 
 -- a block that is not longer than the longest
@@ -77,9 +64,7 @@ module _ (size count : ℕ) (lines : List (List ℕ)) (bytes : List ℕ) (some :
       → IsWrittenAs (Text (layout_of size count)) text (first_areas cut rest)
   one_written rest at there = record {
     some = there;
-    written = λ track number id.
-        subst (λ (r : List ℕ). form_written (Text (layout_of size count)) track (record_with id number (first_areas cut r))
-        ≡ these_bytes (text (first_areas cut r))) (sym at.1)
+    written = λ track number id. rw at.1
         (cc (as_lines at.0 track (number_of (record_with id number (first_areas cut (left at.0)))), text_is at.0));
   }
 
@@ -108,14 +93,14 @@ module _ (size count : ℕ) (lines : List (List ℕ)) (bytes : List ℕ) (some :
       let n = count * size in
       let behind = drop n rest in
       let on = ap (drop n) is ∙ behind_block from in
-      let taken : 1 ≤ n = mul-le 1 1 count size many some in ap said (one_more cut most rest (omega arith))
-      ∙ ap (λ (xs : List ℕ). xs ++ said (rests_to cut most behind)) (ap (λ (r : List ℕ). text (first_areas cut r)) is ∙ text_is from)
-      ∙ ap (λ (xs : List ℕ). flat_map line_text (take count (drop from lines)) ++ xs)
-      (lines_left many most (from + count) behind on (omega (arith, length-drop n rest)))
-      ∙ sym (flat_map-append line_text (take count (drop from lines)) (drop (from + count) lines))
-      ∙ ap (λ (xs : List (List ℕ)). flat_map line_text (take count (drop from lines) ++ xs))
-      (ap (λ (m : ℕ). drop m lines) {y = from + count} (omega arith) ∙ sym (drop-drop count from lines))
-      ∙ ap (flat_map line_text) (take-append-drop count (drop from lines))
+      let taken : 1 ≤ n = mul-le 1 1 count size many some in cc (
+        one_more cut most rest (omega arith),
+        text_is from,
+        lines_left many most (from + count) behind on (omega (arith, length-drop n rest)),
+        flat_map-append line_text (take count (drop from lines)) (drop (from + count) lines),
+        drop-drop count from lines,
+        take-append-drop count (drop from lines),
+      )
 
   pub all_text : 1 ≤ count → flat_map text (block_areas cut bytes) ≡ flat_map line_text lines
   all_text many = lines_left many (length bytes) 0 bytes (ap (λ (n : ℕ). drop n bytes) {x = 0} {y = 0 * size} (omega arith)) (omega arith)

@@ -1,40 +1,30 @@
 -- Parts of the records are read from their place on, track after track, up to the end of file behind them.
-use Rattle.std.proofs.Common.{◌≡◌, ◌∙◌, ap, sym, refl, ℕ, zero, suc, ◌+◌, ◌-◌, ◌≤◌, ◌<◌, List, [], ◌∷◌, ◌++◌, length, take, drop, flat_map}
-use Rattle.std.proofs.Common.{get_or, arith, All, Some, Bool, true, false, cond, nat_lt, ◌==◌, append-nil, length-append, subst, Ok}
-use Rattle.std.proofs.Common.{length-drop, ⊎_elim, drop-drop, ◌≢◌, inr, ap₂}
-use Rattle.std.specs.List.{position}
-use Rattle.std.proofs.lemmas.Bool.Decides.{nat_tests}
-use Rattle.std.proofs.lemmas.Grind.{flat_map-append}
+use Rattle.std.proofs.Common.{inl, ◌≡◌, ◌∙◌, ap, sym, refl, ℕ, zero, suc, ◌+◌, ◌-◌, ◌≤◌, ◌<◌, List, [], ◌∷◌, ◌++◌, length, take, drop}
+use Rattle.std.proofs.Common.{flat_map, get_or, arith, All, Some, Bool, true, false, cond, nat_lt, ◌==◌, append-nil, length-append, subst}
+use Rattle.std.proofs.Common.{Ok, length-drop, ⊎_elim, drop-drop, ◌≢◌, inr, ap₂}
 use Rattle.std.proofs.lemmas.List.{take_more, take_all, take_at, get_or-drop, get_or_append_left, get_or-append-add, length-take-le}
-use Rattle.std.proofs.lemmas.List.{take-append-le, drop-append-le, take-append-drop, drop_at, drop-take}
-use Rattle.std.proofs.lemmas.List.Elements.{All-get_or, All-drop, All-take}
-use Rattle.std.proofs.lemmas.List.Sums.{position_or_len_is}
-use Rattle.ckd_track.specs.declared.geometries.Geometry.{Geometry}
+use Rattle.std.proofs.lemmas.List.{take-append-le, drop-append-le, take-append-drop, drop_at, drop-take, Sums.position_or_len_is}
+use Rattle.std.proofs.{lemmas.Bool.cases_lt, lemmas.Bool.Decides.nat_tests, lemmas.Grind.flat_map-append, Math.Seq.take-append-add}
+use Rattle.std.proofs.{lemmas.List.Elements.All-get_or, lemmas.List.Elements.All-drop, lemmas.List.Elements.All-take, Math.Seq.take-add}
+use Rattle.std.specs.List.{position}
+use Rattle.ckd_track.specs.{declared.geometries.Geometry.Geometry, declared.model.DriveModel.DriveModel, Model.heads_of, Geometry.tracks_of}
 use Rattle.ckd_track.specs.Track.{Record, record_in, no_record, track_of}
-use Rattle.dasd_extract.specs.declared.stops.Cause.TheVariants.{EndOfFile}
-use Rattle.dasd_extract.specs.declared.blocks.ExtractedForm.{ExtractedForm}
-use Rattle.dasd_extract.specs.Written.{Written, these_bytes, stopped, stop_at, and_then, until_stop, told_behind}
-use Rattle.dasd_extract.specs.Blocks.{block_written, number_of}
 use Rattle.dasd_extract.specs.Walk.{blocks_from, first_block, blocks_or_none, slot_written, place_written, place_read_from, track_on}
 use Rattle.dasd_extract.specs.Walk.{Wanted, wanted, number_on, track_written, track_told, alternates_read, source_written, too_many}
+use Rattle.dasd_extract.specs.declared.{stops.Cause.TheVariants.EndOfFile, blocks.ExtractedForm.ExtractedForm}
+use Rattle.dasd_extract.specs.Written.{Written, these_bytes, stopped, stop_at, and_then, until_stop, told_behind}
+use Rattle.dasd_extract.specs.Blocks.{block_written, number_of}
 use Rattle.dasd_extract.proofs.Endings.{until_none, until_one_more, stays_for, ended_stays}
-use Rattle.record_tracks.specs.Records.{Areas, end_of_file, GoesOn}
-use Rattle.record_tracks.specs.Tracks.{fitting_on, record_with, track_bytes, loaded_track, left_behind, StandsAt, Takes}
+use Rattle.dasd_extract.proofs.Told.{none_read, one_more_read}
 use Rattle.record_tracks.specs.ReadBack.{IsWrittenAs, ended_by_file, IsLoadedAt, IsLoaded, IsAskedBy, IsReadBack, IsWritten, IsReadAsData}
-use Rattle.record_tracks.specs.ReadBack.{keyed_text}
+use Rattle.record_tracks.specs.{ReadBack.keyed_text, Records.Areas, Records.end_of_file, Records.GoesOn}
+use Rattle.record_tracks.specs.Tracks.{fitting_on, record_with, track_bytes, loaded_track, left_behind, StandsAt, Takes}
 use Rattle.record_tracks.proofs.Fitting.{left_shrinks, fits_on, none_behind, one_behind, some_fit}
-use Rattle.record_tracks.proofs.Spelled.{record_of, length-records_of, loaded_read}
-use Rattle.ckd_track.specs.declared.model.DriveModel.{DriveModel}
-use Rattle.ckd_track.specs.Model.{heads_of}
-use Rattle.ckd_track.specs.Geometry.{tracks_of}
-use Rattle.volume_labels.specs.declared.fields.Extent.{Extent}
-use Rattle.volume_labels.specs.declared.addresses.TrackPlace.{TrackPlace}
+use Rattle.record_tracks.proofs.{Spelled.record_of, Spelled.length-records_of, Spelled.loaded_read, Standing.in_order}
+use Rattle.volume_labels.specs.declared.{fields.Extent.Extent, addresses.TrackPlace.TrackPlace}
 use Rattle.volume_labels.specs.declared.addresses.TrackPlace.TheVariants as place
 use Rattle.volume_labels.specs.Addresses as addresses
-use Rattle.dasd_extract.proofs.Told.{none_read, one_more_read}
-use Rattle.std.proofs.Math.Seq.{take-append-add, take-add}
 use Rattle.dasd_extract.specs.declared.blocks.ExtractedForm.TheVariants as form
-use Rattle.record_tracks.proofs.Standing.{in_order}
 
 -- What is written of one record: its text; of an end of file nothing, and that is the end.
 one_written : (f : ExtractedForm) (text : Areas → List ℕ) (track number : ℕ) (id : List ℕ) (a : Areas) → IsWrittenAs f text a
@@ -252,11 +242,8 @@ module _ (f : ExtractedForm) (g : Geometry) (extents : List Extent) (slots : Lis
     -- a track before the last has none but those of the part
     not_yet : (j : ℕ) (s : SoFar j) → track + j < last → fit j - s.o ≤ length part - s.q
     not_yet j s there =
-        let d = last - suc (track + j) in
-        let far : suc (track + j) + d ≡ last = omega arith in
-        let same = ap (λ (i : ℕ). length (left_behind g.model areas i)) far in
         let next = ap length (one_behind g.model areas (track + j)) ∙ length-drop (fit j) (left j) in
-        omega (arith, left_shrinks g.model areas (suc (track + j)) d, left_long j s, last_long)
+        omega (arith, left_shrinks g.model areas (suc (track + j)) last there, left_long j s, last_long)
 
     -- the last one has the end of file too
     now : (j : ℕ) (s : SoFar j) → track + j ≡ last → length part - s.q + 1 ≤ fit j - s.o
@@ -330,8 +317,7 @@ module _ (f : ExtractedForm) (g : Geometry) (extents : List Extent) (slots : Lis
         (All-drop (IsWrittenAs f text) s.q part are) in
         let bytes : flat_map text (take s.q part) ++ flat_map text rest ≡ flat_map text part =
         cc (flat_map-append text (take s.q part) rest, take-append-drop s.q part) in
-        until_one_more told j ∙ ap₂ and_then s.written written ∙ ap (λ (xs : List ℕ). ended_by_file xs (track + j)) bytes
-        ∙ ap (ended_by_file (flat_map text part)) there
+        until_one_more told j ∙ ap₂ and_then s.written written ∙ ap₂ ended_by_file bytes there
 
     pub part_read : last < track + most → source_written source g slots ≡ ended_by_file (flat_map text part) last
     part_read within =
@@ -402,12 +388,11 @@ some_in (x ∷ xs) some = omega arith
 -- the last record stands on the last of the tracks
 module _ (model : DriveModel) (areas : List Areas) (tracks : ℕ) (takes : Takes model areas tracks) where
   some_tracks : 0 < length areas → 1 ≤ tracks
-  some_tracks some = by tracks refl
-    where
-      by : (n : ℕ) → n ≡ tracks → 1 ≤ tracks
-      by zero is =
-          let none = sym (none_behind model areas) ∙ ap (left_behind model areas) is ∙ takes.all in absurd (omega (arith, ap length none))
-      by (suc n) is = omega arith
+  some_tracks some = elim (cases_lt tracks 1) [
+    | inl none ↦
+        absurd (omega (arith, left_shrinks model areas tracks 0 (omega arith), ap length (none_behind model areas), ap length takes.all))
+    | inr is ↦ is
+  ]
 
   pub last_stands : (k : ℕ) → k + 1 ≡ length areas → StandsAt model areas k (tracks - 1) (length (left_behind model areas (tracks - 1)))
   last_stands k all =
@@ -425,9 +410,6 @@ module _ (model : DriveModel) (areas : List Areas) (tracks : ℕ) (takes : Takes
         there = omega arith;
       }
 
-  pub tracks_some : 0 < length areas → tracks - 1 + 1 ≡ tracks
-  tracks_some some = omega (arith, some_tracks some)
-
 -- all of them with an end of file behind them
 module _ (model : DriveModel) (part : List Areas) (tracks : ℕ) (each : All (GoesOn model) (part ++ (end_of_file ∷ [])))
     (takes : Takes model (part ++ (end_of_file ∷ [])) tracks) where
@@ -443,7 +425,7 @@ module _ (model : DriveModel) (part : List Areas) (tracks : ℕ) (each : All (Go
       ≡ ended_by_file (flat_map text part) (tracks - 1)
   whole_read form text g extents slots most are same within loaded =
       let some : 0 < length all = omega (arith, long) in
-      let e = tracks_some model all tracks takes some in
+      let e : tracks - 1 + 1 ≡ tracks = omega (arith, some_tracks model all tracks takes some) in
       let zero_on : length part ≡ 0 + length part = omega arith in
       read_back model all each form text part 0 0 1 0 (tracks - 1) (length (left_behind model all (tracks - 1)))
       (record { before = []; behind = []; all = refl; number = refl }) are (first_stands model all each some) (inr (refl, refl))

@@ -1,23 +1,17 @@
 -- The bytes from each block on, one block after another.
-use Rattle.std.proofs.Common.{◌≡◌, ◌∙◌, ap, sym, refl, ℕ, zero, suc, ◌+◌, ◌-◌, ◌≤◌, ◌<◌, List, [], ◌∷◌, ◌++◌, length, map, drop, arith, All}
-use Rattle.std.proofs.Common.{Bool, true, false, ◌==◌, Option, Some, None, append_assoc, append-nil, take, length-take}
-use Rattle.std.proofs.lemmas.Bool.Decides.{nat_tests}
-use Rattle.std.proofs.lemmas.List.Elements.{All-nil, All-cons}
-use Rattle.record_tracks.specs.Records.{Areas}
-use Rattle.record_tracks.specs.declared.blocks.Cut.{Cut}
-use Rattle.record_tracks.specs.declared.block_faults.DescribedFault.{DescribedFault}
+use Rattle.std.proofs.Common.{get_or, ◌≡◌, ap, sym, refl, ℕ, zero, suc, ◌+◌, ◌-◌, ◌≤◌, ◌<◌, List, [], ◌∷◌, ◌++◌, length, map, drop, arith}
+use Rattle.std.proofs.Common.{All, Bool, true, false, ◌==◌, Option, Some, None, append_assoc, append-nil, take, length-take}
+use Rattle.std.proofs.lemmas.{Bool.Decides.nat_tests, List.Elements.All-nil, List.Elements.All-cons}
+use Rattle.record_tracks.specs.{Records.Areas, declared.blocks.Cut.Cut, declared.block_faults.DescribedFault.DescribedFault}
 use Rattle.record_tracks.specs.Blocks.{size_of, first_areas, rests_to, rests_of, cut_by, IsBlock, AreBlocks}
-use Rattle.record_tracks.specs.BlockFaults.{or_next, first_fault, described_fault, lengths_fault, fault_of_first, cut_fault, IsCutFor}
-use Rattle.std.specs.Prelude.{IfNone}
-use Rattle.ckd_track.specs.declared.model.DriveModel.{DriveModel}
-use Rattle.ckd_track.specs.Model.{capacity_of}
-use Rattle.volume_labels.specs.declared.records.RecordForm.{RecordForm}
-use Rattle.volume_labels.specs.declared.records.RecordForm.TheVariants as form
-use Rattle.volume_labels.specs.Records.{number_at}
-use Rattle.volume_labels.specs.declared.layouts.Layout.{Layout}
-use Rattle.record_tracks.proofs.Listed.{keyless_goes, goes_by_test}
+use Rattle.record_tracks.specs.BlockFaults.{first_fault, described_fault, lengths_fault, fault_of_first, cut_fault, IsCutFor}
 use Rattle.record_tracks.specs.declared.blocks.Cut.TheVariants.{Length, Described, WithLengths}
 use Rattle.record_tracks.specs.declared.block_faults.BlockFault.{BlockFault}
+use Rattle.std.specs.Prelude.{IfNone}
+use Rattle.ckd_track.specs.{declared.model.DriveModel.DriveModel, Model.capacity_of}
+use Rattle.volume_labels.specs.{declared.records.RecordForm.RecordForm, Records.number_at, declared.layouts.Layout.Layout}
+use Rattle.record_tracks.proofs.Listed.{keyless_goes, goes_by_test}
+use Rattle.volume_labels.specs.declared.records.RecordForm.TheVariants as form
 
 -- bytes of which it was asked whether there are some
 pub is_empty : (n : ℕ) (b : Bool) → b ≡ (n == 0) → b ≡ true → n ≤ 0
@@ -25,10 +19,6 @@ is_empty n b is none = grind (arith, nat_tests)
 
 pub has_some : (n : ℕ) (b : Bool) → b ≡ (n == 0) → b ≡ false → 1 ≤ n
 has_some n b is some = grind (arith, nat_tests)
-
-pub none_most : (cut : Cut) (bytes : List ℕ) → rests_to cut 0 bytes ≡ []
-unfolding rests_to
-none_most cut bytes = refl
 
 pub none_left : (cut : Cut) (most : ℕ) (bytes : List ℕ) → length bytes ≤ 0 → rests_to cut most bytes ≡ []
 unfolding rests_to
@@ -83,25 +73,16 @@ pub at_first : (cut : Cut) (bytes : List ℕ) → rests_of cut bytes ≡ rests_t
 at_first cut bytes = ap (λ (n : ℕ). rests_to cut n bytes) (omega arith)
 
 pub at_last : (cut : Cut) (size k : ℕ) (rest : List ℕ) → size ≤ k → rests_to cut (size - k) rest ≡ []
-at_last cut size k rest all = let none : size - k ≡ 0 = omega arith in cc (none_most cut rest)
+unfolding rests_to
+at_last cut size k rest all = let none : size - k ≡ 0 = omega arith in rw none refl
 
 -- The first of blocks that is none.
 module _ (why : List ℕ → Option DescribedFault) where
-  pub no_fault : (k : ℕ) → first_fault why [] k ≡ None
-  unfolding first_fault
-  no_fault k = refl
-
-  pub next_fault : (rest : List ℕ) (others : List (List ℕ)) (k : ℕ)
-      → first_fault why (rest ∷ others) k ≡ or_next k (why rest) (first_fault why others)
-  unfolding first_fault
-  next_fault rest others k = refl
-
   passes : (rest : List ℕ) (others : List (List ℕ)) (k : ℕ) (o : Option DescribedFault) → o ≡ why rest
       → first_fault why (rest ∷ others) k ≡ None → (why rest ≡ None) × (first_fault why others (k + 1) ≡ None)
-  passes rest others k (Some fault) here is =
-      let next = ap (λ (o : Option DescribedFault). or_next k o (first_fault why others)) here ∙ sym (next_fault rest others k) ∙ is in
-      absurd (cc)
-  passes rest others k None here is = (sym here, cc (next_fault rest others k))
+  unfolding first_fault
+  passes rest others k (Some fault) here is = absurd (cc)
+  passes rest others k None here is = (sym here, cc)
 
   -- where there is none, each is one
   pub none_wrong : (rests : List (List ℕ)) (k : ℕ) → first_fault why rests k ≡ None → All (λ (rest : List ℕ). why rest ≡ None) rests
@@ -111,18 +92,15 @@ module _ (why : List ℕ → Option DescribedFault) where
       All-cons (λ (rest : List ℕ). why rest ≡ None) rest others both.0 (none_wrong others (k + 1) both.1)
 
 -- blocks of one length
-one_length : (model : DriveModel) (size : ℕ) → 1 ≤ size → size ≤ capacity_of model → (rest : List ℕ) → 1 ≤ length rest
-    → IsBlock model (Length size) rest
-one_length model size some most rest there = record {
-  some = omega (arith, length-take size rest);
-  whole = tt;
-  goes = keyless_goes model (take size rest) (omega (arith, length-take size rest));
-}
-
 pub length_fits : (model : DriveModel) (size : ℕ) (bytes : List ℕ) → 1 ≤ size → size ≤ capacity_of model
     → AreBlocks model (Length size) bytes
 length_fits model size bytes some most k d there =
-    one_length model size some most _ (some_left (Length size) (length bytes) bytes k d there)
+    let rest = get_or (rests_of (Length size) bytes) k d in
+    let left = some_left (Length size) (length bytes) bytes k d there in record {
+      some = omega (arith, length-take size rest);
+      whole = tt;
+      goes = keyless_goes model (take size rest) (omega (arith, length-take size rest));
+    }
 
 -- a block by its descriptor word
 described_fits : (model : DriveModel) (l : Layout) (rest : List ℕ) → l.longest ≤ capacity_of model → described_fault l rest ≡ None

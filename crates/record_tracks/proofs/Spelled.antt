@@ -1,40 +1,25 @@
 -- The bytes that a track begins with, record after record.
-use Rattle.std.proofs.Common.{◌≡◌, ◌∙◌, ap, sym, refl, ℕ, ◌+◌, ◌≤◌, ◌<◌, List, [], ◌∷◌, ◌++◌, length, take, flat_map, arith, length-append}
+use Rattle.std.proofs.Common.{◌≡◌, ◌∙◌, ap, refl, ℕ, ◌+◌, ◌≤◌, ◌<◌, List, [], ◌∷◌, ◌++◌, length, take, flat_map, arith, length-append}
 use Rattle.std.proofs.Common.{append_assoc, append-nil, get_or, zero, suc, ◌/◌, ◌%◌, All, Ok, replicate, bytes_eq, slice_index_or}
-use Rattle.std.proofs.lemmas.Grind.{flat_map-append}
-use Rattle.std.proofs.lemmas.List.{take_more, take-take, length-take-le}
-use Rattle.std.proofs.lemmas.List.Sums.{sum_by-cons, sum_by-append, sum_by-take-le}
-use Rattle.ckd_track.specs.declared.geometries.Geometry.{Geometry}
-use Rattle.ckd_track.specs.Model.{capacity_of, heads_of}
-use Rattle.ckd_track.specs.Track.{Record, record_bytes, IsRecord, track_of, no_record, count_area, end_mark}
-use Rattle.record_tracks.specs.Records.{Areas, end_of_file, GoesOn}
-use Rattle.record_tracks.specs.Tracks.{fitting_on, record_with, records_with, track_bytes, loaded_track, loaded_slot}
-use Rattle.record_tracks.specs.Writing.{track_front, records_front}
-use Rattle.record_tracks.proofs.Fitting.{sizes, area_size, fits_on, few_bytes}
+use Rattle.std.proofs.lemmas.{Grind.flat_map-append, List.Sums.sum_by-cons, List.Sums.sum_by-append, List.Sums.sum_by-take-le}
+use Rattle.std.proofs.lemmas.{List.take_more, List.take-take, List.length-take-le, Slice.Eq.bytes_eq-Decides, Bool.false_from_ne_true}
 use Rattle.std.proofs.lemmas.List.Elements.{All-nil, All-cons, All-head, All-tail, All-take}
-use Rattle.std.proofs.lemmas.Slice.Eq.{bytes_eq-Decides}
-use Rattle.std.proofs.lemmas.Bool.{false_from_ne_true}
-use Rattle.ckd_track.specs.declared.model.DriveModel.{DriveModel}
+use Rattle.ckd_track.specs.{declared.geometries.Geometry.Geometry, Model.capacity_of, Model.heads_of, declared.model.DriveModel.DriveModel}
+use Rattle.ckd_track.specs.Track.{Record, record_bytes, IsRecord, track_of, no_record, count_area, end_mark}
 use Rattle.ckd_track.specs.NewVolume.{address}
+use Rattle.record_tracks.specs.{Records.Areas, Records.end_of_file, Records.GoesOn, Writing.track_front, Writing.records_front}
+use Rattle.record_tracks.specs.Tracks.{fitting_on, record_with, records_with, track_bytes, loaded_track, loaded_slot}
+use Rattle.record_tracks.proofs.Fitting.{sizes, area_size, fits_on, few_bytes}
 use Rattle.ckd_track.proofs.Slots.{slot_of_reads}
-
-pub no_records : (track : List ℕ) (number : ℕ) → records_with track number [] ≡ []
-unfolding records_with
-no_records track number = refl
-
-pub one_record : (track : List ℕ) (number : ℕ) (a : Areas) (others : List Areas)
-    → records_with track number (a ∷ others) ≡ record_with track number a ∷ records_with track (number + 1) others
-unfolding records_with
-one_record track number a others = refl
 
 -- records for areas, and behind them for others
 pub records-append : (track : List ℕ) (number : ℕ) (xs ys : List Areas)
     → records_with track number (xs ++ ys) ≡ records_with track number xs ++ records_with track (number + length xs) ys
-records-append track number [] ys = let none : number + 0 ≡ number = omega arith in rw (no_records track number, none) refl
+unfolding records_with
+records-append track number [] ys = let none : number + 0 ≡ number = omega arith in rw none refl
 records-append track number (a ∷ others) ys =
-    let far : number + 1 + length others ≡ number + length (a ∷ others) = omega arith in one_record track number a (others ++ ys)
-    ∙ ap (λ (rs : List Record). record_with track number a ∷ rs) (rw far at (records-append track (number + 1) others ys))
-    ∙ ap (λ (rs : List Record). rs ++ records_with track (number + length (a ∷ others)) ys) (sym (one_record track number a others))
+    let far : number + 1 + length others ≡ number + length (a ∷ others) = omega arith in
+    ap (λ (rs : List Record). record_with track number a ∷ rs) (rw far at (records-append track (number + 1) others ys))
 
 -- a record, by the bytes of its track's address
 pub length-record_with : (track : List ℕ) (number : ℕ) (a : Areas) → length track ≡ 4
@@ -43,28 +28,25 @@ length-record_with track number a four = omega (arith, length-append {A = ℕ})
 
 pub length-records : (track : List ℕ) (number : ℕ) (areas : List Areas) → length track ≡ 4
     → length (flat_map record_bytes (records_with track number areas)) ≡ sizes areas
-length-records track number [] four = rw (no_records track number) refl
+unfolding records_with
+length-records track number [] four = refl
 length-records track number (a ∷ others) four =
     let rs = flat_map record_bytes (records_with track (number + 1) others) in
     let behind = length-records track (number + 1) others four in
     let both = length-append (record_bytes (record_with track number a)) rs in
-    rw (one_record track number a others) (omega (arith, length-record_with track number a four, sum_by-cons area_size a others))
+    omega (arith, length-record_with track number a four, sum_by-cons area_size a others)
 
 -- the bytes of one record more
 pub one_more_record : (g : Geometry) (n k : ℕ) (areas : List Areas) (a : Areas) → k < length areas → get_or areas k end_of_file ≡ a
     → records_front g n (take (k + 1) areas) ≡ records_front g n (take k areas) ++ record_bytes (record_with (track_bytes g n) (k + 1) a)
+unfolding records_with
 one_more_record g n k areas a there is =
     let track = track_bytes g n in
     let front = track_front g n in
     let before = records_with track 1 (take k areas) in
     let number : 1 + length (take k areas) ≡ k + 1 = omega (arith, length-take-le k areas (omega arith)) in
     let more : records_with track 1 (take (k + 1) areas) ≡ before ++ (record_with track (k + 1) a ∷ []) =
-    cc (
-      take_more areas k end_of_file there,
-      records-append track 1 (take k areas) (a ∷ []),
-      one_record track (k + 1) a [],
-      no_records track (k + 1 + 1),
-    ) in
+    cc (take_more areas k end_of_file there, records-append track 1 (take k areas) (a ∷ [])) in
     let last = record_bytes (record_with track (k + 1) a) in
     let two = flat_map-append record_bytes before (record_with track (k + 1) a ∷ []) in
     cc (append-nil last, append_assoc front (flat_map record_bytes before) last)
@@ -96,7 +78,8 @@ module _ (g : Geometry) (n : ℕ) (areas : List Areas) where
 
 -- a track with none of them
 pub no_areas : (g : Geometry) (n : ℕ) → records_front g n [] ≡ track_front g n
-no_areas g n = cc (no_records (track_bytes g n) 1, append-nil (track_front g n))
+unfolding records_with
+no_areas g n = append-nil (track_front g n)
 
 -- a record whose key has less than 255 bytes is no end mark
 pub is_record : (c h number : ℕ) (a : Areas) → length a.key_area < 255 → length a.data_area < 65536
@@ -113,25 +96,27 @@ is_record c h number a key short = record {
 
 pub are_records : (model : DriveModel) (c h number : ℕ) (areas : List Areas) → All (GoesOn model) areas
     → All IsRecord (records_with (address c h) number areas)
-are_records model c h number [] each = rw (no_records (address c h) number) (All-nil IsRecord)
+unfolding records_with
+are_records model c h number [] each = All-nil IsRecord
 are_records model c h number (a ∷ others) each =
-    let goes = All-head (GoesOn model) a others each in rw (one_record (address c h) number a others)
-    (All-cons IsRecord (record_with (address c h) number a) (records_with (address c h) (number + 1) others)
+    let goes = All-head (GoesOn model) a others each in
+    All-cons IsRecord (record_with (address c h) number a) (records_with (address c h) (number + 1) others)
     (is_record c h number a goes.key (few_bytes model a goes))
-    (are_records model c h (number + 1) others (All-tail (GoesOn model) a others each)))
+    (are_records model c h (number + 1) others (All-tail (GoesOn model) a others each))
 
 -- the record of a number
 pub record_of : (track : List ℕ) (number : ℕ) (areas : List Areas) (k : ℕ) → k < length areas
     → slice_index_or (records_with track number areas) k no_record ≡ record_with track (number + k) (get_or areas k end_of_file)
+unfolding records_with
 record_of track number [] k there = absurd (omega arith)
-record_of track number (a ∷ others) zero there = let e : number + 0 ≡ number = omega arith in rw (one_record track number a others, e) refl
+record_of track number (a ∷ others) zero there = let e : number + 0 ≡ number = omega arith in rw e refl
 record_of track number (a ∷ others) (suc k) there =
-    let e : number + 1 + k ≡ number + suc k = omega arith in
-    rw (one_record track number a others) (rw e at (record_of track (number + 1) others k (omega arith)))
+    let e : number + 1 + k ≡ number + suc k = omega arith in rw e at (record_of track (number + 1) others k (omega arith))
 
 pub length-records_of : (track : List ℕ) (number : ℕ) (areas : List Areas) → length (records_with track number areas) ≡ length areas
-length-records_of track number [] = ap length (no_records track number)
-length-records_of track number (a ∷ others) = cc (one_record track number a others, length-records_of track (number + 1) others)
+unfolding records_with
+length-records_of track number [] = refl
+length-records_of track number (a ∷ others) = ap suc (length-records_of track (number + 1) others)
 
 pub loaded_read : (g : Geometry) (n : ℕ) (left : List Areas) → All (GoesOn g.model) left
     → track_of (loaded_slot g n left) ≡ Ok (loaded_track g n left)

@@ -1,25 +1,12 @@
 -- The address of a record is where it stands.
 use Rattle.std.proofs.Common.{◌≡◌, ◌∙◌, ap, sym, refl, subst, ℕ, zero, suc, ◌+◌, ◌-◌, ◌≤◌, ◌<◌, List, [], ◌∷◌, length, map, drop, arith}
-use Rattle.std.proofs.Common.{All, true, false, nat_lt, ◌⊎◌, inl, inr, length-drop, drop-drop}
-use Rattle.std.proofs.lemmas.Bool.{cases_lt}
-use Rattle.std.proofs.lemmas.Bool.Decides.{nat_tests}
-use Rattle.std.proofs.lemmas.List.{drop-map}
+use Rattle.std.proofs.Common.{All, true, false, nat_lt, inl, inr, length-drop, drop-drop}
+use Rattle.std.proofs.lemmas.{Bool.cases_lt, Bool.Decides.nat_tests, List.drop-map}
 use Rattle.ckd_track.specs.declared.model.DriveModel.{DriveModel}
 use Rattle.volume_labels.specs.declared.fields.RelativeAddress.{RelativeAddress}
-use Rattle.record_tracks.specs.Records.{Areas, GoesOn, charge_for, last_charge_for}
-use Rattle.record_tracks.specs.Tracks.{fitting, fitting_on, behind_track, left_behind, StandsAt, Takes}
+use Rattle.record_tracks.specs.{Records.Areas, Records.GoesOn, Records.charge_for, Addresses.address_from}
+use Rattle.record_tracks.specs.{Tracks.fitting, Tracks.fitting_on, Tracks.left_behind, Tracks.StandsAt, Tracks.Takes, Addresses.address_of}
 use Rattle.record_tracks.proofs.Fitting.{fits_on, none_behind, one_behind, some_fit, one_more, left_shrinks}
-use Rattle.record_tracks.specs.Addresses.{address_from, address_of}
-
-module _ (most : ℕ) (model : DriveModel) (left : List Areas) (track k : ℕ) where
-  on_this : k < fitting_on model left → address_from (suc most) model left track k ≡ record { track = track; number = k + 1 }
-  unfolding address_from
-  on_this fits = let is : nat_lt k (fitting_on model left) ≡ true = grind (arith, nat_tests) in rw is refl
-
-  further_on : fitting_on model left ≤ k → address_from (suc most) model left track k
-      ≡ address_from most model (behind_track model left) (track + 1) (k - fitting_on model left)
-  unfolding address_from
-  further_on over = let is : nat_lt k (fitting_on model left) ≡ false = grind (arith, nat_tests) in rw is refl
 
 module _ (model : DriveModel) (areas : List Areas) where
   abbrev Stands : (k : ℕ) → RelativeAddress → Type 0
@@ -28,32 +15,24 @@ module _ (model : DriveModel) (areas : List Areas) where
   -- from a record on with which a track begins
   stands_from : All (GoesOn model) areas → (most before track k : ℕ) → k < most → before + k < length areas
       → left_behind model areas track ≡ drop before areas → Stands (before + k) (address_from most model (drop before areas) track k)
+  unfolding address_from
   stands_from each zero before track k enough there left = absurd (omega arith)
   stands_from each (suc most) before track k enough there left =
-      by (cases_lt k (fitting_on model (drop before areas))) (stands_from each most)
-    where
-      by : (k < fitting_on model (drop before areas)) ⊎ (fitting_on model (drop before areas) ≤ k)
-          → ((before track k : ℕ) → k < most → before + k < length areas → left_behind model areas track ≡ drop before areas
-          → Stands (before + k) (address_from most model (drop before areas) track k))
-          → Stands (before + k) (address_from (suc most) model (drop before areas) track k)
-      by (inl fits) others = subst (Stands (before + k)) (sym (on_this most model (drop before areas) track k fits)) (record {
-        before = before;
-        left = left;
-        place = omega arith;
-        first = omega arith;
-        there = omega (arith, ap (fitting_on model) left);
-      })
-      by (inr over) others =
-          let fit = fitting_on model (drop before areas) in
-          let some = some_fit model areas before each (omega arith) in
-          let far : before + fit + (k - fit) ≡ before + k = omega arith in
-          let next = others (before + fit) (track + 1) (k - fit) (omega arith)
-          (omega arith) (sym (one_more model areas before track (sym left))) in
-          let here = subst (λ (j : ℕ). Stands j (address_from most model (drop (before + fit) areas) (track + 1) (k - fit))) far next in
-          let same : address_from most model (drop (before + fit) areas) (track + 1) (k - fit)
-          ≡ address_from (suc most) model (drop before areas) track k =
-          cc (drop-drop fit before areas, further_on most model (drop before areas) track k over) in
-          subst (Stands (before + k)) same here
+      let fit = fitting_on model (drop before areas) in elim (cases_lt k fit) [
+        | inl fits ↦ let is : nat_lt k fit ≡ true = grind (arith, nat_tests) in rw is (record {
+          before = before;
+          left = left;
+          place = omega arith;
+          first = omega arith;
+          there = omega (arith, ap (fitting_on model) left);
+        })
+        | inr over ↦
+            let is : nat_lt k fit ≡ false = grind (arith, nat_tests) in
+            let some = some_fit model areas before each (omega arith) in
+            let far : before + k ≡ before + fit + (k - fit) = omega arith in
+            rw (is, far, drop-drop fit before areas) (stands_from each most (before + fit) (track + 1) (k - fit) (omega arith)
+            (omega arith) (sym (one_more model areas before track (sym left))))
+      ]
 
   pub address_stands : All (GoesOn model) areas → (k : ℕ) → k < length areas → Stands k (address_of model areas k)
   address_stands each k there = let e : 0 + k ≡ k = omega arith in subst (λ (j : ℕ). Stands j (address_of model areas k)) e
@@ -67,18 +46,15 @@ module _ (model : DriveModel) (areas : List Areas) where
   -- a record behind another stands on no track before that of the other
   pub in_order : (k j track number later its_number : ℕ) → StandsAt model areas k track number → StandsAt model areas j later its_number
       → k ≤ j → track ≤ later
-  in_order k j track number later its_number s r behind = by (cases_lt later track)
-    where
-      by : (later < track) ⊎ (track ≤ later) → track ≤ later
-      by (inr is) = is
-      by (inl before) =
-          let d = track - suc later in
-          let e : suc later + d ≡ track = omega arith in
-          let same = ap (λ (i : ℕ). length (left_behind model areas i)) e in
-          let next = ap length (one_behind model areas later)
-          ∙ length-drop (fitting_on model (left_behind model areas later)) (left_behind model areas later) in
-          let fits = (fits_on model 0 (left_behind model areas track)).within in
-          absurd (omega (arith, left_shrinks model areas (suc later) d, left_long k track number s, left_long j later its_number r))
+  in_order k j track number later its_number s r behind = elim (cases_lt later track) [
+    | inr is ↦ is
+    | inl before ↦
+        let next = ap length (one_behind model areas later)
+        ∙ length-drop (fitting_on model (left_behind model areas later)) (left_behind model areas later) in
+        let fits = (fits_on model 0 (left_behind model areas track)).within in
+        let fewer = left_shrinks model areas (suc later) track before in
+        absurd (omega (arith, left_long k track number s, left_long j later its_number r))
+  ]
 
   -- a record stands in one place
   pub one_place : (k track number other its_number : ℕ) → StandsAt model areas k track number → StandsAt model areas k other its_number
@@ -102,16 +78,12 @@ module _ (model : DriveModel) (areas : List Areas) where
 
   -- and on one of the tracks that the records take
   pub is_taken : (tracks k track number : ℕ) → Takes model areas tracks → StandsAt model areas k track number → track < tracks
-  is_taken tracks k track number takes s = by (cases_lt track tracks)
-    where
-      by : (track < tracks) ⊎ (tracks ≤ track) → track < tracks
-      by (inl is) = is
-      by (inr past) =
-          let d = track - tracks in
-          let e : tracks + d ≡ track = omega arith in
-          let same = ap (λ (i : ℕ). length (left_behind model areas i)) e in
-          let fits = (fits_on model 0 (left_behind model areas track)).within in
-          absurd (omega (arith, left_shrinks model areas tracks d, ap length takes.all))
+  is_taken tracks k track number takes s = elim (cases_lt track tracks) [
+    | inl is ↦ is
+    | inr past ↦
+        let fits = (fits_on model 0 (left_behind model areas track)).within in
+        absurd (omega (arith, left_shrinks model areas tracks track past, ap length takes.all))
+  ]
 
 -- Records of the same lengths stand in the same places.
 pub record SameLengths (xs ys : List Areas) : Type 0 where
@@ -130,8 +102,7 @@ module _ (model : DriveModel) where
       let key : length x.key_area ≡ length y.key_area = cc in
       let byte : length x.data_area ≡ length y.data_area = cc in
       let others : SameLengths xs ys = record { keys = cc; bytes = cc } in
-      let last : last_charge_for model x ≡ last_charge_for model y = cc in
-      let charge : charge_for model x ≡ charge_for model y = cc in cc (same_fit (taken + charge_for model y) xs ys others)
+      cc (same_fit (taken + charge_for model y) xs ys others)
 
   same_left : (n : ℕ) (xs ys : List Areas) → SameLengths xs ys → SameLengths (drop n xs) (drop n ys)
   same_left n xs ys same = record {

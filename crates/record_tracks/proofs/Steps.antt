@@ -1,17 +1,12 @@
 -- One step of a reader of a directory.
-use Rattle.std.proofs.Common.{◌≡◌, ◌∙◌, ap, sym, refl, ℕ, suc, ◌+◌, ◌*◌, ◌/◌, ◌%◌, ◌≤◌, ◌<◌, List, ◌∷◌, ◌++◌, length, get_or, arith, true}
-use Rattle.std.proofs.Common.{false, nat_lt, nat_le, ◌==◌, ◌||◌, cond, slice_range, slice_index, length-append, append_assoc, Bool}
-use Rattle.std.proofs.Common.{replicate}
-use Rattle.std.proofs.lemmas.Bool.Decides.{nat_tests}
+use Rattle.std.proofs.Common.{◌≡◌, ap, false, nat_lt, nat_le, ◌==◌, ◌||◌, cond, slice_range, slice_index, length-append, append_assoc, Bool}
+use Rattle.std.proofs.Common.{◌∙◌, sym, refl, ℕ, suc, ◌+◌, ◌*◌, ◌/◌, ◌%◌, ◌≤◌, ◌<◌, List, ◌∷◌, ◌++◌, length, get_or, arith, true, replicate}
+use Rattle.std.proofs.lemmas.{Bool.Decides.nat_tests, Slice.between_is, Bool.false_from_ne_true, Slice.Eq.bytes_eq-Decides}
 use Rattle.std.proofs.lemmas.List.{get_or-append-add, drop-take, drop_at, take_at}
-use Rattle.std.proofs.lemmas.Slice.{between_is}
-use Rattle.volume_labels.specs.declared.directories.DirectoryEntry.{DirectoryEntry}
+use Rattle.volume_labels.specs.declared.directories.{DirectoryEntry.DirectoryEntry, DirectoryFault.TheVariants.UsedBytes}
 use Rattle.volume_labels.specs.declared.directories.DirectoryStep.{DirectoryStep}
 use Rattle.volume_labels.specs.declared.directories.DirectoryStep.TheVariants.{Entry, Skip, End, Fault}
-use Rattle.volume_labels.specs.declared.directories.DirectoryFault.TheVariants.{UsedBytes}
 use Rattle.volume_labels.specs.Directories.{number_at, entry_of, is_last, entry_step, step_at, block_start, entries_from, from_step}
-use Rattle.std.proofs.lemmas.Bool.{false_from_ne_true}
-use Rattle.std.proofs.lemmas.Slice.Eq.{bytes_eq-Decides}
 use Rattle.record_tracks.specs.Entries.{EntryContents, lengths_byte, entry_bytes, entry_read, last_entry, IsEntry}
 use Rattle.record_tracks.proofs.Going.{length-entry}
 
@@ -35,36 +30,25 @@ step_from bytes start at = cond (nat_lt (length bytes) (start + 256)) End
     (entry_step bytes at (start + number_at bytes start)))))
 
 module _ (bytes : List ℕ) (k used at : ℕ) (has : HasBlock bytes k used) (from : 256 * k ≤ at) (to : at < 256 * k + 256) where
-  start_is : block_start at ≡ 256 * k
-  start_is = omega arith
-
-  in_it : step_at bytes at ≡ step_from bytes (256 * k) at
+  -- what stands there, by two tests
+  stands : (here over : Bool) → (at == 256 * k) ≡ here → nat_le (256 * k + used) at ≡ over → step_at bytes at
+      ≡ cond here (Skip (256 * k + 2)) (cond over (Skip (256 * k + 256)) (entry_step bytes at (256 * k + used)))
   unfolding step_from
-  in_it = ap (λ (s : ℕ). step_from bytes s at) start_is
-
-  there_is : nat_lt (length bytes) (256 * k + 256) ≡ false
-  there_is = let there = has.there in grind (arith, nat_tests)
-
-  used_is : (nat_lt used 2 || nat_lt 256 used) ≡ false
-  used_is = let least = has.least in let most = has.most in grind (arith, nat_tests)
+  stands here over is past =
+      let there_is : nat_lt (length bytes) (256 * k + 256) ≡ false = let there = has.there in grind (arith, nat_tests) in
+      let used_is : (nat_lt used 2 || nat_lt 256 used) ≡ false = let least = has.least in let most = has.most in grind (arith, nat_tests) in
+      let start_is : block_start at ≡ 256 * k = omega arith in
+      ap (λ (s : ℕ). step_from bytes s at) start_is ∙ rw (there_is, has.number, used_is, is, past) refl
 
   -- at its begin, behind what is used, and before that
   pub begins : at ≡ 256 * k → step_at bytes at ≡ Skip (256 * k + 2)
-  unfolding step_from
-  begins is = let here : (at == 256 * k) ≡ true = grind (arith, nat_tests) in in_it ∙ rw (there_is, has.number, used_is, here) refl
+  begins is = stands true _ (grind (arith, nat_tests)) refl
 
   pub passes : 256 * k < at → 256 * k + used ≤ at → step_at bytes at ≡ Skip (256 * k + 256)
-  unfolding step_from
-  passes behind past =
-      let here : (at == 256 * k) ≡ false = grind (arith, nat_tests) in
-      let over : nat_le (256 * k + used) at ≡ true = grind (arith, nat_tests) in in_it ∙ rw (there_is, has.number, used_is, here, over) refl
+  passes behind past = stands false true (grind (arith, nat_tests)) (grind (arith, nat_tests))
 
   pub enters : 256 * k < at → at < 256 * k + used → step_at bytes at ≡ entry_step bytes at (256 * k + used)
-  unfolding step_from
-  enters behind before =
-      let here : (at == 256 * k) ≡ false = grind (arith, nat_tests) in
-      let over : nat_le (256 * k + used) at ≡ false = grind (arith, nat_tests) in
-      in_it ∙ rw (there_is, has.number, used_is, here, over) refl
+  enters behind before = stands false false (grind (arith, nat_tests)) (grind (arith, nat_tests))
 
 -- What is read of an entry that stands behind a front.
 module _ (front name behind : List ℕ) (at hi lo number lengths : ℕ) (is_at : length front ≡ at) (eight : length name ≡ 8) where

@@ -1,55 +1,40 @@
 -- Blanks at the end of bytes of EBCDIC, and at the end of the text that these are.
 use Rattle.std.proofs.Common.{◌≡◌, ◌≢◌, ◌∙◌, ◌<◌, ◌≤◌, ◌+◌, ◌-◌, ◌==◌, ℕ, zero, suc, Bool, true, false, cond, List, [], ◌∷◌, ◌++◌, length}
-use Rattle.std.proofs.Common.{take, get_or, reverse, replicate, ap, refl, sym, subst, arith, append_assoc, append-nil, length-append, ◌⊎◌}
+use Rattle.std.proofs.Common.{take, get_or, reverse, replicate, ap, refl, sym, subst, arith, append_assoc, append-nil, length-append}
 use Rattle.std.proofs.Common.{inl, inr, ◌||◌, nat_lt, nat_le, ◌&&◌, ap₂, Option, Some, None, Ok, Err, ◌*◌, drop, Result, flat_map}
-use Rattle.std.specs.List.{suffix_len, prefix_len}
+use Rattle.std.specs.{List.suffix_len, Str.is_utf8, Str.chars, Str.encode_utf8_all, Prelude.encode_utf8, Prelude.slice_range}
 use Rattle.std.proofs.lemmas.List.{drop_all, take_at, get_or_past, reverse-append, reverse-reverse, take_all, take-append-le}
-use Rattle.std.proofs.lemmas.List.{get_or-append_right, get_or_push, length-replicate}
-use Rattle.std.specs.Prelude.{encode_utf8, slice_range}
-use Rattle.std.proofs.lemmas.List.Concat.{flat_map-append}
-use Rattle.std.proofs.lemmas.List.Sums.{suffix_len-take_no}
-use Rattle.std.proofs.Math.Seq.{take-append-add, drop-append-add, drop-append_seam}
-use Rattle.std.proofs.lemmas.Bool.{eq-eqb, ne_eqb, eqb-true, ltb-false, cases_eq, cases_lt, le-ltb, agree_below, agree_below_at}
+use Rattle.std.proofs.lemmas.List.{get_or-append_right, get_or_push, length-replicate, Sums.suffix_len-take_no, Quantifiers.position-Some}
+use Rattle.std.proofs.{lemmas.List.Concat.flat_map-append, Math.Seq.take-append-add, Math.Seq.drop-append-add, Math.Seq.drop-append_seam}
+use Rattle.std.proofs.lemmas.Bool.{eq-eqb, ne_eqb, eqb-true, ltb-false, cases_eq, cases_lt, cases_Bool, le-ltb, agree_below, agree_below_at}
 use Rattle.std.proofs.lemmas.Str.{encode_ascii, inside_one, length-encode, len_utf8_bounds, encodes-chars, IsUtf8-from_is_utf8}
-use Rattle.volume_labels.specs.Ebcdic.{code_page_037, character_of}
-use Rattle.volume_labels.specs.Lines.{is_blank, without_blanks}
+use Rattle.volume_labels.specs.{Ebcdic.code_page_037, Ebcdic.character_of, declared.records.RecordForm.TheVariants.Fixed}
+use Rattle.volume_labels.specs.{Lines.is_blank, Lines.without_blanks, declared.records.Segment.TheVariants.Whole, Records.fixed_record}
 use Rattle.dasd_extract.specs.Blocks.{text_character, text_of, is_control, line_of, lines_from, on_piece}
-use Rattle.record_tracks.specs.Read as read
-use Rattle.std.specs.Str.{is_utf8, chars, encode_utf8_all}
-use Rattle.std.proofs.lemmas.List.Quantifiers.{position-Some}
-use Rattle.record_tracks.specs.declared.text_faults.TextLineFault.{TextLineFault}
-use Rattle.record_tracks.specs.declared.text_faults.TextLineFault.TheVariants.{TooLong, NoCharacter}
-use Rattle.record_tracks.specs.Codes.{code_of, codes_of, line_codes, before}
+use Rattle.dasd_extract.specs.Written.{Written, these_bytes, behind}
+use Rattle.record_tracks.specs.declared.text_faults.{TextLineFault.TextLineFault, TextRecordsFault.TextRecordsFault}
+use Rattle.record_tracks.specs.{Codes.code_of, Codes.codes_of, Codes.line_codes, Codes.before, Lines.lines_of, Lines.in_front}
 use Rattle.record_tracks.specs.TextRecords.{padded, record_with, record_of, and_records, records_from, records_of}
-use Rattle.volume_labels.specs.declared.records.RecordForm.TheVariants.{Fixed}
-use Rattle.volume_labels.specs.declared.records.Segment.TheVariants.{Whole}
-use Rattle.volume_labels.specs.Records.{fixed_record}
-use Rattle.dasd_extract.specs.Written.{Written, these_bytes, behind, nothing}
-use Rattle.record_tracks.specs.declared.text_faults.TextRecordsFault.{TextRecordsFault}
-use Rattle.record_tracks.specs.Lines.{lines_of, in_front}
 use Rattle.record_tracks.specs.Read.{ended, AreLinesOf, IsReadAsLines, IsReadAsText}
+use Rattle.record_tracks.specs.Read as read
 
 -- without the elements at the end that pass
 abbrev pub cut : (ℕ → Bool) → List ℕ → List ℕ
 cut p l = take (length l - suffix_len p l) l
 
 module _ (p : ℕ → Bool) where
-  one_more : (l : List ℕ) (x : ℕ) → suffix_len p (l ++ x ∷ []) ≡ cond (p x) (1 + suffix_len p l) 0
-  one_more l x = ap (prefix_len p) (reverse-append l (x ∷ []))
-
   pub cut_one : (l : List ℕ) (x : ℕ) → p x ≡ true → cut p (l ++ x ∷ []) ≡ cut p l
-  cut_one l x passes = ap (λ n. take n (l ++ x ∷ [])) {y = length l - suffix_len p l} (omega (arith, length-append l (x ∷ []), counted))
+  cut_one l x passes =
+      let counted : suffix_len p (l ++ x ∷ []) ≡ 1 + suffix_len p l = cc (reverse-append l (x ∷ [])) in
+      ap (λ n. take n (l ++ x ∷ [])) {y = length l - suffix_len p l} (omega (arith, length-append l (x ∷ [])))
       ∙ take-append-le (length l - suffix_len p l) l (x ∷ []) (omega arith)
-    where
-      counted : suffix_len p (l ++ x ∷ []) ≡ 1 + suffix_len p l
-      counted = cc (one_more l x)
 
   -- the last element does not pass
   pub kept : (l : List ℕ) → 0 < length l → p (get_or l (length l - 1) 0) ≡ false → cut p l ≡ l
-  kept l some fails = ap (λ n. take n l) {y = length l} (omega (arith, none)) ∙ take_all (length l) l (omega arith)
-    where
-      none : suffix_len p l ≡ 0
-      none = cc (take_all (length l) l (omega arith), suffix_len-take_no p l (length l) 0 some (omega arith) fails)
+  kept l some fails =
+      let none : suffix_len p l ≡ 0 =
+      cc (take_all (length l) l (omega arith), suffix_len-take_no p l (length l) 0 some (omega arith) fails) in
+      ap (λ n. take n l) {y = length l} (omega arith) ∙ take_all (length l) l (omega arith)
 
 -- blanks behind bytes are cut with those at their end
 pub filled : (n : ℕ) (l : List ℕ) → without_blanks (l ++ replicate n 0x40) ≡ without_blanks l
@@ -71,12 +56,11 @@ unfolding code_page_037
 past b outside = ap (λ c. cond (nat_lt c 32 || (nat_le 127 c && nat_lt c 160)) 0xFFFD c) (get_or_past code_page_037 b 0 outside)
 
 only_blank : (b : ℕ) → text_character b ≡ 32 → b ≡ 0x40
-only_blank b is = go (cases_lt b 256)
-  where
-    go : (b < 256) ⊎ (256 ≤ b) → b ≡ 0x40
-    go (inl inside) = eqb-true b 0x40 (agree_below_at (λ b. b == 0x40) (λ b. text_character b == 32) 256 b blanks inside
-        ∙ eq-eqb (text_character b) 32 is)
-    go (inr outside) = absurd (omega (arith, past b outside))
+only_blank b is = elim (cases_lt b 256) [
+  | inl inside ↦ eqb-true b 0x40 (agree_below_at (λ b. b == 0x40) (λ b. text_character b == 32) 256 b blanks inside
+      ∙ eq-eqb (text_character b) 32 is)
+  | inr outside ↦ absurd (omega (arith, past b outside))
+]
 
 module _ (front : List ℕ) (b : ℕ) where
   text_more : text_of (front ++ b ∷ []) ≡ text_of front ++ encode_utf8 (text_character b)
@@ -97,7 +81,23 @@ module _ (front : List ℕ) (b : ℕ) where
   -- one byte more
   by_last : text_of (without_blanks front) ≡ read.without_blanks (text_of front)
       → text_of (without_blanks (front ++ b ∷ [])) ≡ read.without_blanks (text_of (front ++ b ∷ []))
-  by_last h = go (cases_eq b 0x40)
+  by_last h = elim (cases_eq b 0x40) [
+    | inl same ↦ cc (
+      cut_one is_blank front b (eq-eqb b 0x40 same),
+      cut_one (λ it. it == 32) (text_of front) 32 refl,
+      encode_ascii 32 (omega arith),
+      ap (λ c. read.without_blanks (text_of front ++ encode_utf8 c)) {x = 32} (sym blank_is ∙ ap text_character (sym same)),
+      text_more,
+    )
+    | inr differs ↦ cc (
+      kept is_blank (front ++ b ∷ []) (omega (arith, length-append front (b ∷ [])))
+          (rw (get_or_push front b 0 (length (front ++ b ∷ []) - 1) (omega (arith, length-append front (b ∷ []))))
+          (ne_eqb b 0x40 differs)),
+      text_more,
+      kept (λ it. it == 32) (text_of front ++ row) (omega (arith, length-append (text_of front) row, some))
+          (ap (λ d. d == 32) at_end ∙ last_byte differs row refl),
+    )
+  ]
     where
       row : List ℕ
       row = encode_utf8 (text_character b)
@@ -110,25 +110,6 @@ module _ (front : List ℕ) (b : ℕ) where
           (omega (arith, length-append (text_of front) row, some))
           ∙ ap (λ n. get_or row n 0) (omega (arith, length-append (text_of front) row, some))
 
-      go : (b ≡ 0x40) ⊎ (b ≡ 0x40 → ⊥) → text_of (without_blanks (front ++ b ∷ [])) ≡ read.without_blanks (text_of (front ++ b ∷ []))
-      go (inl same) = cc (
-        cut_one is_blank front b (eq-eqb b 0x40 same),
-        cut_one (λ it. it == 32) (text_of front) 32 refl,
-        encode_ascii 32 (omega arith),
-        ap (λ c. read.without_blanks (text_of front ++ encode_utf8 c)) {x = 32} (sym blank_is ∙ ap text_character (sym same)),
-        text_more,
-      )
-      go (inr differs) = cc (
-        kept is_blank (front ++ b ∷ []) (omega (arith, length-append front (b ∷ []))) last_of_bytes,
-        text_more,
-        kept (λ it. it == 32) (text_of front ++ row) (omega (arith, length-append (text_of front) row, some))
-            (ap (λ d. d == 32) at_end ∙ last_byte differs row refl),
-      )
-        where
-          last_of_bytes : is_blank (get_or (front ++ b ∷ []) (length (front ++ b ∷ []) - 1) 0) ≡ false
-          last_of_bytes = rw (get_or_push front b 0 (length (front ++ b ∷ []) - 1) (omega (arith, length-append front (b ∷ []))))
-              (ne_eqb b 0x40 differs)
-
 -- The blanks at the end of bytes are those at the end of their text.
 cut_reversed : (rest : List ℕ) → text_of (without_blanks (reverse rest)) ≡ read.without_blanks (text_of (reverse rest))
 cut_reversed [] = refl
@@ -140,13 +121,12 @@ cut_text codes = cc (reverse-reverse codes, cut_reversed (reverse codes))
 
 -- the byte of a character is written as it
 code_read : (c b : ℕ) → code_of c ≡ Some b → text_character b ≡ c
-code_read c b is = go (is_control c) refl
-  where
-    go : (t : Bool) → is_control c ≡ t → text_character b ≡ c
-    go true e = let none = rw e at is in absurd (cc)
-    go false e =
-        let found = rw e at is in
-        let same = eqb-true (character_of b) c (position-Some (λ (it : ℕ). it == c) code_page_037 b 0 found).1 in cc
+code_read c b is = elim (cases_Bool (is_control c)) [
+  | inl e ↦ let none = rw e at is in absurd (cc)
+  | inr e ↦
+      let found = rw e at is in
+      let same = eqb-true (character_of b) c (position-Some (λ (it : ℕ). it == c) code_page_037 b 0 found).1 in cc
+]
 
 parts : (a : Option ℕ) (x : Option (List ℕ)) (codes : List ℕ) → before a x ≡ Some codes
     → (b : ℕ) × (bs : List ℕ) × (a ≡ Some b) × (x ≡ Some bs) × (b ∷ bs ≡ codes)
@@ -154,28 +134,20 @@ parts None x codes e = absurd (cc)
 parts (Some b) None codes e = absurd (cc)
 parts (Some b) (Some bs) codes e = (b, bs, refl, refl, cc)
 
-unfolded : (c : ℕ) (cs : List ℕ) → codes_of (c ∷ cs) ≡ before (code_of c) (codes_of cs)
-unfolding codes_of
-unfolded c cs = refl
-
-no_codes : (codes : List ℕ) → codes_of [] ≡ Some codes → codes ≡ []
-unfolding codes_of
-no_codes codes e = cc
-
 -- the bytes of characters are written as these
 codes_read : (cs codes : List ℕ) → codes_of cs ≡ Some codes → text_of codes ≡ encode_utf8_all cs
-codes_read [] codes e = ap text_of (no_codes codes e)
+unfolding codes_of
+codes_read [] codes e = cc
 codes_read (c ∷ cs) codes e =
-    let p = parts (code_of c) (codes_of cs) codes (sym (unfolded c cs) ∙ e) in
+    let p = parts (code_of c) (codes_of cs) codes e in
     ap text_of (sym p.4) ∙ ap₂ (λ (d : ℕ) (t : List ℕ). encode_utf8 d ++ t) (code_read c p.0 p.2) (codes_read cs p.1 p.3)
 
 -- so a line is
 line_read : (line codes : List ℕ) → line_codes line ≡ Some codes → text_of codes ≡ line
-line_read line codes is = go (is_utf8 line) refl
-  where
-    go : (t : Bool) → is_utf8 line ≡ t → text_of codes ≡ line
-    go true e = codes_read (chars line) codes (cc) ∙ encodes-chars line (IsUtf8-from_is_utf8 line e)
-    go false e = let none = rw e at is in absurd (cc)
+line_read line codes is = elim (cases_Bool (is_utf8 line)) [
+  | inl e ↦ codes_read (chars line) codes (cc) ∙ encodes-chars line (IsUtf8-from_is_utf8 line e)
+  | inr e ↦ let none = rw e at is in absurd (cc)
+]
 
 -- A record is as long as it is wanted, and is read as its line.
 pub record IsRecord (size : ℕ) (line bytes : List ℕ) : Type 0 where
@@ -185,9 +157,6 @@ pub record IsRecord (size : ℕ) (line bytes : List ℕ) : Type 0 where
 pub is_record : (size : ℕ) (line bytes : List ℕ) → record_of size line ≡ Ok bytes → IsRecord size line bytes
 is_record size line bytes is = with_codes (line_codes line) refl is
   where
-    no_bytes : (f : TextLineFault) → Err f ≡ Ok bytes → ⊥
-    no_bytes f e = absurd cc
-
     there : (codes : List ℕ) → line_codes line ≡ Some codes → length codes ≤ size → padded size codes ≡ bytes → IsRecord size line bytes
     there codes e short same = record {
       long = ap length (sym same) ∙ length-append codes (replicate (size - length codes) 0x40)
@@ -195,14 +164,12 @@ is_record size line bytes is = with_codes (line_codes line) refl is
       read = cc (filled (size - length codes) codes, cut_text codes, line_read line codes e);
     }
 
-    fitting : (t : Bool) (codes : List ℕ) → t ≡ nat_lt size (length codes) → line_codes line ≡ Some codes
-        → cond t (Err TooLong) (Ok (padded size codes)) ≡ Ok bytes → IsRecord size line bytes
-    fitting true codes long e same = absurd (no_bytes TooLong same)
-    fitting false codes short e same = there codes e (ltb-false size (length codes) (sym short)) cc
-
     with_codes : (o : Option (List ℕ)) → line_codes line ≡ o → record_with size o ≡ Ok bytes → IsRecord size line bytes
-    with_codes None e same = absurd (no_bytes NoCharacter same)
-    with_codes (Some codes) e same = fitting (nat_lt size (length codes)) codes refl e same
+    with_codes None e same = absurd cc
+    with_codes (Some codes) e same = elim (cases_Bool (nat_lt size (length codes))) [
+      | inl long ↦ let none = rw long at same in absurd cc
+      | inr short ↦ let fits = rw short at same in there codes e (ltb-false size (length codes) short) cc
+    ]
 
 -- Bytes are the records of lines, one behind another.
 pub record Joins (size : ℕ) (line : List ℕ) (bytes others : List ℕ) : Type 0 where
@@ -218,15 +185,6 @@ AreRecords size (line ∷ lines) bytes = (others : List ℕ) × Joins size line 
 abbrev pub text_read : List (List ℕ) → List ℕ
 text_read lines = flat_map (λ line. ended (read.without_blanks line)) lines
 
-one : (size number : ℕ) (l : List ℕ) (ls : List (List ℕ))
-    → records_from size number (l ∷ ls) ≡ and_records number (record_of size l) (records_from size (number + 1) ls)
-unfolding records_from
-one size number l ls = refl
-
-no_records : (size number : ℕ) (bytes : List ℕ) → records_from size number [] ≡ Ok bytes → bytes ≡ []
-unfolding records_from
-no_records size number bytes e = cc
-
 both : (number : ℕ) (r : Result (List ℕ) TextLineFault) (more : Result (List ℕ) TextRecordsFault) (bytes : List ℕ)
     → and_records number r more ≡ Ok bytes → (a : List ℕ) × (b : List ℕ) × (r ≡ Ok a) × (more ≡ Ok b) × (bytes ≡ a ++ b)
 both number (Ok a) (Ok b) bytes e = (a, b, refl, refl, cc)
@@ -235,9 +193,10 @@ both number (Err f) more bytes e = absurd (cc)
 
 pub are_records : (size number : ℕ) (lines : List (List ℕ)) (bytes : List ℕ) → records_from size number lines ≡ Ok bytes
     → AreRecords size lines bytes
-are_records size number [] bytes e = no_records size number bytes e
+unfolding records_from
+are_records size number [] bytes e = cc
 are_records size number (l ∷ ls) bytes e =
-    let p = both number (record_of size l) (records_from size (number + 1) ls) bytes (sym (one size number l ls) ∙ e) in
+    let p = both number (record_of size l) (records_from size (number + 1) ls) bytes e in
     (p.1, record { first = p.0; joined = p.4; is_record = is_record size l p.0 p.2 }, are_records size (number + 1) ls p.1 p.3)
 
 -- A part of them.
@@ -245,19 +204,12 @@ are_records size number (l ∷ ls) bytes e =
 size_more : (size n k : ℕ) → k ≡ size → suc n * size ≡ k + n * size
 size_more size n k e = omega arith
 
-behind_first : (size n : ℕ) (first others : List ℕ) → length first ≡ size → drop (suc n * size) (first ++ others) ≡ drop (n * size) others
-behind_first size n first others long = cc (size_more size n (length first) long, drop-append-add first others (n * size))
-
-with_first : (size n : ℕ) (first others : List ℕ) → length first ≡ size
-    → take (suc n * size) (first ++ others) ≡ first ++ take (n * size) others
-with_first size n first others long = cc (size_more size n (length first) long, take-append-add first others (n * size))
-
 dropped : (size n : ℕ) (lines : List (List ℕ)) (bytes : List ℕ) → AreRecords size lines bytes
     → AreRecords size (drop n lines) (drop (n * size) bytes)
 dropped size zero lines bytes h = let none : 0 ≡ 0 * size = omega arith in subst (λ k. AreRecords size lines (drop k bytes)) none h
 dropped size (suc n) [] bytes h = cc (drop_all {X = ℕ} (suc n * size) [] (omega arith))
 dropped size (suc n) (l ∷ ls) bytes h = subst (AreRecords size (drop n ls))
-    (sym (cc (behind_first size n h.1.first h.0 h.1.is_record.long)))
+    (sym (cc (size_more size n (length h.1.first) h.1.is_record.long, drop-append-add h.1.first h.0 (n * size))))
     (dropped size n ls h.0 h.2)
 
 taken : (size n : ℕ) (lines : List (List ℕ)) (bytes : List ℕ) → AreRecords size lines bytes
@@ -266,41 +218,31 @@ taken size zero lines bytes h = ap (λ k. take k bytes) {x = 0 * size} {y = 0} (
 taken size (suc n) [] bytes h = cc (take_all {A = ℕ} (suc n * size) [] (omega arith))
 taken size (suc n) (l ∷ ls) bytes h = (
   take (n * size) h.0,
-  record { first = h.1.first; joined = cc (with_first size n h.1.first h.0 h.1.is_record.long); is_record = h.1.is_record },
+  record {
+    first = h.1.first;
+    joined = cc (size_more size n (length h.1.first) h.1.is_record.long, take-append-add h.1.first h.0 (n * size));
+    is_record = h.1.is_record;
+  },
   taken size n ls h.0 h.2,
 )
 
 -- A block of records, read from one of them on.
 module _ (size track number : ℕ) (some : 1 ≤ size) where
-  step : (most : ℕ) (block : List ℕ) (at : ℕ) → lines_from (suc most) (Fixed size) track number block at
-      ≡ on_piece track number block (fixed_record size block at) (lines_from most (Fixed size) track number block)
-  unfolding lines_from
-  step most block at = refl
-
-  no_step : (block : List ℕ) (at : ℕ) → lines_from 0 (Fixed size) track number block at ≡ nothing
-  unfolding lines_from
-  no_step block at = refl
-
   at_end : (block : List ℕ) (at : ℕ) → at ≡ length block → fixed_record size block at ≡ Ok None
   at_end block at e = rw (eq-eqb at (length block) e) refl
 
   there : (block : List ℕ) (at : ℕ) → at + size ≤ length block
       → fixed_record size block at ≡ Ok (Some (record { start = at; end = at + size; segment = Whole }))
   there block at within = rw (
-    ne_eqb at (length block) (apart at (length block) within),
-    ne_eqb size 0 (apart_zero some),
+    ne_eqb at (length block) (λ e. omega arith),
+    ne_eqb size 0 (λ e. omega arith),
     le-ltb (length block - at) size (omega arith),
   ) refl
-    where
-      apart : (a n : ℕ) → a + size ≤ n → a ≡ n → ⊥
-      apart a n h e = omega (arith, some)
-
-      apart_zero : 1 ≤ size → size ≡ 0 → ⊥
-      apart_zero h e = omega arith
 
   none : (most : ℕ) (block : List ℕ) (at : ℕ) → at ≡ length block → lines_from most (Fixed size) track number block at ≡ these_bytes []
-  none zero block at e = no_step block at
-  none (suc most) block at e = cc (step most block at, at_end block at e)
+  unfolding lines_from
+  none zero block at e = refl
+  none (suc most) block at e = cc (at_end block at e)
 
   slice_there : (front rest first others : List ℕ) → rest ≡ first ++ others → length first ≡ size
       → slice_range (front ++ rest) (length front) (length front + size) ≡ first
@@ -309,10 +251,11 @@ module _ (size track number : ℕ) (some : 1 ≤ size) where
 
   read_from : (lines : List (List ℕ)) (front rest : List ℕ) (most : ℕ) → AreRecords size lines rest → length rest ≤ most
       → lines_from most (Fixed size) track number (front ++ rest) (length front) ≡ these_bytes (text_read lines)
+  unfolding lines_from
   read_from [] front rest most h enough = none most (front ++ rest) (length front) (omega (arith, length-append front rest, ap length h))
   read_from (l ∷ ls) front rest zero h enough = absurd (omega (arith, some, ap length h.1.joined, length-append h.1.first h.0))
-  read_from (l ∷ ls) front rest (suc most) h enough = step most (front ++ rest) (length front)
-      ∙ ap (λ r. on_piece track number (front ++ rest) r (lines_from most (Fixed size) track number (front ++ rest)))
+  read_from (l ∷ ls) front rest (suc most) h enough =
+      ap (λ r. on_piece track number (front ++ rest) r (lines_from most (Fixed size) track number (front ++ rest)))
       (there (front ++ rest) (length front) (omega (arith, length-append front rest, long)))
       ∙ ap₂ (λ (t : List ℕ) (w : Written). behind None t w)
       (ap line_of (slice_there front rest h.1.first h.0 h.1.joined h.1.is_record.long) ∙ h.1.is_record.read)
@@ -333,22 +276,16 @@ read_as_lines size lines bytes some h from count track number =
 
 -- A line feed begins no line, and another byte is at the front of one.
 
-fed : (text : List ℕ) (lines : List (List ℕ)) → AreLinesOf text lines → AreLinesOf (10 ∷ text) ([] ∷ lines)
-fed text lines (inl e) = inl (ap (λ l. 10 ∷ l) e)
-fed text lines (inr e) = inr (ap (λ l. 10 ∷ l) e)
-
 fronted : (b : ℕ) (text : List ℕ) (lines : List (List ℕ)) → AreLinesOf text lines → AreLinesOf (b ∷ text) (in_front b lines)
 fronted b text [] (inl e) = inr (ap (λ l. b ∷ l ++ 10 ∷ []) e)
-fronted b text [] (inr e) = absurd (too_short text e)
-  where
-    too_short : (text : List ℕ) → [] ≡ text ++ 10 ∷ [] → ⊥
-    too_short text e = omega (arith, ap length e, length-append text (10 ∷ []))
+fronted b text [] (inr e) = absurd (omega (arith, ap length e, length-append text (10 ∷ [])))
 fronted b text (l ∷ ls) (inl e) = inl (ap (λ t. b ∷ t) e)
 fronted b text (l ∷ ls) (inr e) = inr (ap (λ t. b ∷ t) e)
 
 one_byte : (b : ℕ) (text : List ℕ) (lines : List (List ℕ)) (t : Bool) → (b == 10) ≡ t → AreLinesOf text lines
     → AreLinesOf (b ∷ text) (cond t ([] ∷ lines) (in_front b lines))
-one_byte b text lines true e h = subst (λ c. AreLinesOf (c ∷ text) ([] ∷ lines)) (sym (eqb-true b 10 e)) (fed text lines h)
+one_byte b text lines true e (inl h) = inl (cc (eqb-true b 10 e))
+one_byte b text lines true e (inr h) = inr (cc (eqb-true b 10 e))
 one_byte b text lines false e h = fronted b text lines h
 
 are_lines : (text : List ℕ) → AreLinesOf text (lines_of text)

@@ -1,9 +1,8 @@
 -- The bytes of characters, one after another.
-use Rattle.std.proofs.Common.{◌≡◌, ◌<◌, ◌≤◌, ◌+◌, ℕ, true, List, [], ◌∷◌, ◌++◌, length, drop, get_or, append_assoc, append-nil, ap, refl}
-use Rattle.std.proofs.Common.{sym, Option, Some, None}
+use Rattle.std.proofs.Common.{◌∙◌, ◌≡◌, ◌<◌, ◌≤◌, ◌+◌, ℕ, true, List, [], ◌∷◌, ◌++◌, length, drop, get_or, append_assoc, append-nil, ap}
+use Rattle.std.proofs.Common.{refl, sym, Option, Some, None}
 use Rattle.std.proofs.lemmas.List.{at_drop_more, at_drop_all}
-use Rattle.record_tracks.specs.Codes.{code_of, codes_of, before}
-use Rattle.record_tracks.specs.Putting.{PutsCodes}
+use Rattle.record_tracks.specs.{Codes.code_of, Codes.codes_of, Codes.before, Putting.PutsCodes}
 
 -- these bytes before others, if there are such
 abbrev pub behind : List ℕ → Option (List ℕ) → Option (List ℕ)
@@ -23,16 +22,9 @@ same (Some l) = refl
 pub none_spelled : (cs start : List ℕ) → SpelledTo cs 0 start start
 none_spelled cs start = record { bytes = []; put = sym (append-nil start); rest = same (codes_of cs) }
 
-one : (c : ℕ) (cs : List ℕ) → codes_of (c ∷ cs) ≡ before (code_of c) (codes_of cs)
-unfolding codes_of
-one c cs = refl
-
-none_left : codes_of [] ≡ Some []
-unfolding codes_of
-none_left = refl
-
 next : (cs : List ℕ) (n c : ℕ) → n < length cs → c ≡ get_or cs n c → codes_of (drop n cs) ≡ before (code_of c) (codes_of (drop (n + 1) cs))
-next cs n c inside is = cc (at_drop_more codes_of cs n c inside, one c (drop (n + 1) cs))
+unfolding codes_of
+next cs n c inside is = at_drop_more codes_of cs n c inside ∙ ap (λ c. codes_of (c ∷ drop (n + 1) cs)) (sym is)
 
 shifted : (bytes : List ℕ) (byte : ℕ) (o : Option (List ℕ)) → behind bytes (before (Some byte) o) ≡ behind (bytes ++ byte ∷ []) o
 shifted bytes byte None = refl
@@ -54,4 +46,5 @@ not_spelled cs start now n c at h is = cc (next cs n c at.0 at.1)
 
 -- all characters have bytes
 pub all_spelled : (cs start now : List ℕ) (n : ℕ) → length cs ≤ n → SpelledTo cs n start now → PutsCodes (codes_of cs) start now true
-all_spelled cs start now n all h = (h.bytes, cc (at_drop_all codes_of cs n all, none_left, append-nil h.bytes), h.put)
+unfolding codes_of
+all_spelled cs start now n all h = (h.bytes, cc (at_drop_all codes_of cs n all, append-nil h.bytes), h.put)

@@ -1,21 +1,16 @@
 -- What the reader writes of the blocks of a file: its bytes.
-use Rattle.std.proofs.Common.{◌≡◌, ap, refl, subst, ℕ, zero, suc, ◌+◌, ◌*◌, ◌/◌, ◌%◌, ◌≤◌, ◌<◌, List, [], ◌∷◌, length, map, take}
-use Rattle.std.proofs.Common.{drop, flat_map, arith, All, length-take, length-drop}
-use Rattle.std.proofs.Math.Seq.{take-add}
-use Rattle.std.proofs.lemmas.List.{take-append-drop, length-take-le}
+use Rattle.std.proofs.Common.{◌≡◌, ap, refl, subst, ℕ, zero, suc, ◌+◌, ◌*◌, ◌/◌, ◌%◌, ◌≤◌, ◌<◌, List, [], ◌∷◌, length, map, take, drop}
+use Rattle.std.proofs.Common.{flat_map, arith, All, length-take, length-drop}
+use Rattle.std.proofs.{Math.Seq.take-add, lemmas.List.take-append-drop, lemmas.List.length-take-le}
 use Rattle.std.proofs.lemmas.List.Elements.{All-head, All-tail, All-drop, All-map, All-nil, All-cons, All-append}
 use Rattle.ckd_track.specs.declared.model.DriveModel.{DriveModel}
-use Rattle.record_tracks.specs.Records.{Areas, GoesOn, end_of_file}
-use Rattle.record_tracks.specs.ReadBack.{IsWrittenAs, keyed_text}
-use Rattle.record_tracks.proofs.Reading.{as_data, as_keyed, whole_read}
-use Rattle.dasd_extract.specs.declared.blocks.ExtractedForm.TheVariants.{Raw}
-use Rattle.volume_labels.specs.Records.{number_at}
-use Rattle.record_tracks.specs.declared.blocks.Cut.{Cut}
-use Rattle.record_tracks.specs.declared.blocks.Cut.TheVariants.{Length, Described, WithLengths}
+use Rattle.record_tracks.specs.{Records.Areas, Records.GoesOn, Records.end_of_file, ReadBack.IsWrittenAs, ReadBack.keyed_text}
+use Rattle.record_tracks.specs.declared.blocks.Cut.{Cut, TheVariants.Length, TheVariants.Described, TheVariants.WithLengths}
 use Rattle.record_tracks.specs.Blocks.{size_of, first_areas, rests_to, rests_of, block_areas, IsWhole, IsBlock, AreBlocks, areas_of}
 use Rattle.record_tracks.specs.Extracted.{form_of, IsReadAs, IsReadBack}
-use Rattle.record_tracks.proofs.Rests.{none_left, one_more}
-use Rattle.record_tracks.proofs.Listed.{end_goes}
+use Rattle.record_tracks.proofs.{Reading.as_data, Reading.as_keyed, Reading.whole_read, Rests.none_left, Rests.one_more, Listed.end_goes}
+use Rattle.dasd_extract.specs.declared.blocks.ExtractedForm.TheVariants.{Raw}
+use Rattle.volume_labels.specs.Records.{number_at}
 
 abbrev pub IsByte : ℕ → Type 0
 IsByte byte = byte < 256

@@ -1,10 +1,8 @@
 use Rattle.std.proofs.Common.{◌≡◌, ap, List, length, drop, arith}
 use Rattle.std.proofs.lemmas.List.{drop_all}
-use Rattle.record_tracks.specs.declared.libraries.NewMember.{NewMember}
-use Rattle.record_tracks.specs.Library.{members_areas}
-use Rattle.record_tracks.proofs.Members.{length-next, length-first, no_member}
+use Rattle.record_tracks.specs.{declared.libraries.NewMember.NewMember, Library.members_areas}
+use Rattle.record_tracks.proofs.{Members.length-next, Members.length-first, Members.no_member, addresses.number_of.Goals.After-loop-k}
 use Rattle.record_tracks.proofs.addresses.number_of.Goals as goal
-use Rattle.record_tracks.proofs.addresses.number_of.Goals.{After-loop-k}
 
 pub loop-k-preserved : goal.loop-k-preserved
 loop-k-preserved c = omega (arith, length-next c.args.members.now c.loop-k.k no_member c.loop-k-test.true)

@@ -1,6 +1,5 @@
 use Rattle.std.proofs.Common.{◌≡◌, ◌-◌, length}
-use Rattle.record_tracks.specs.Blocks.{rests_to, rests_of}
-use Rattle.record_tracks.specs.BlockFaults.{fault_of_first, first_fault}
+use Rattle.record_tracks.specs.{Blocks.rests_to, Blocks.rests_of, BlockFaults.fault_of_first, BlockFaults.first_fault}
 use Rattle.record_tracks.proofs.block_faults.first_fault.Given as goal
 
 -- the blocks so far are some

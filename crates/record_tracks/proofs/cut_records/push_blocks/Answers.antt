@@ -1,8 +1,7 @@
 use Rattle.std.proofs.Common.{◌∙◌, ap, sym, ◌+◌, ◌-◌, ◌≤◌, ◌++◌, ◌∷◌, [], length, map, List, ℕ}
 use Rattle.std.proofs.lemmas.List.{map-append}
 use Rattle.ckd_track.proofs.Offsets.{are_bytes}
-use Rattle.record_tracks.specs.Records.{Areas, areas_of, all_areas}
-use Rattle.record_tracks.specs.Blocks.{first_areas, rests_to}
+use Rattle.record_tracks.specs.{Records.Areas, Records.areas_of, Records.all_areas, Blocks.first_areas, Blocks.rests_to}
 use Rattle.record_tracks.proofs.Rests.{is_empty, has_some, none_left, next_areas, areas_end, at_first, at_last}
 use Rattle.record_tracks.proofs.cut_records.push_blocks.Goals as goal
 

@@ -1,6 +1,5 @@
 use Rattle.std.proofs.Common.{◌≡◌, ◌<◌, ◌++◌, ◌-◌, ℕ, All, length, map}
-use Rattle.record_tracks.specs.Records.{all_areas}
-use Rattle.record_tracks.specs.Blocks.{first_areas, rests_to, block_areas}
+use Rattle.record_tracks.specs.{Records.all_areas, Blocks.first_areas, Blocks.rests_to, Blocks.block_areas}
 use Rattle.record_tracks.proofs.cut_records.push_blocks.Given as goal
 
 -- the blocks so far, and those that are left, are all

@@ -1,7 +1,6 @@
 use Rattle.std.proofs.Common.{◌≡◌, ◌+◌, length, take, drop}
 use Rattle.std.specs.List.{concat}
-use Rattle.record_tracks.specs.Entries.{all_contents, all_entries}
-use Rattle.record_tracks.specs.Filled.{PutBehind}
+use Rattle.record_tracks.specs.{Entries.all_contents, Entries.all_entries, Filled.PutBehind}
 use Rattle.record_tracks.proofs.directories.append_entries.Given as goal
 
 -- the entries so far are there

@@ -1,6 +1,7 @@
+use Rattle.record_tracks.proofs.Fitting.{some_left}
 use Rattle.std.proofs.Common.{◌≡◌, ◌+◌, ◌-◌, ◌<◌, length, drop, arith}
 use Rattle.record_tracks.specs.Entries.{all_contents, all_entries}
-use Rattle.record_tracks.proofs.Going.{length-entries, entries_short, all_left, some_fit, some_left, one_more, then_none}
+use Rattle.record_tracks.proofs.Going.{length-entries, entries_short, all_left, some_fit, one_more, then_none}
 use Rattle.record_tracks.proofs.directories.blocks_needed.Goals as goal
 
 pub loop-next-smaller : goal.loop-next-smaller

@@ -1,6 +1,5 @@
 use Rattle.std.proofs.Common.{◌≡◌, ◌≢◌, ◌≤◌, ◌+◌, ◌-◌, ℕ, suc, [], length, drop}
-use Rattle.record_tracks.specs.Entries.{all_contents, all_entries}
-use Rattle.record_tracks.specs.Directory.{left_behind}
+use Rattle.record_tracks.specs.{Entries.all_contents, Entries.all_entries, Directory.left_behind}
 use Rattle.record_tracks.proofs.directories.blocks_needed.Given as goal
 
 -- what is left behind the blocks so far, and behind more of them; each of them has something

@@ -1,6 +1,5 @@
 use Rattle.std.proofs.Common.{◌≡◌, ◌≤◌, ◌+◌, take, drop}
-use Rattle.record_tracks.specs.Entries.{all_contents, all_entries}
-use Rattle.record_tracks.specs.Directory.{going_in, used_by}
+use Rattle.record_tracks.specs.{Entries.all_contents, Entries.all_entries, Directory.going_in, Directory.used_by}
 use Rattle.record_tracks.proofs.directories.going_in.Given as goal
 
 -- the entries so far go into the block, and behind them as many as go in behind what they use

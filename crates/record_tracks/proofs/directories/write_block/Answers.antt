@@ -1,15 +1,11 @@
 use Rattle.std.proofs.Common.{◌≡◌, ◌∙◌, ap, sym, ℕ, ◌+◌, ◌-◌, ◌/◌, ◌%◌, ◌<◌, ◌≤◌, ◌++◌, [], ◌∷◌, length, drop, take, replicate, arith}
 use Rattle.std.proofs.Common.{length-append, append_assoc, ⊎_elim}
 use Rattle.std.specs.List.{concat}
-use Rattle.std.proofs.lemmas.Bool.{cases_lt}
-use Rattle.std.proofs.lemmas.List.{get_or-drop, get_or-take, drop_all, length-take-le}
-use Rattle.std.proofs.lemmas.List.Elements.{All-drop}
-use Rattle.record_tracks.specs.Entries.{all_contents, all_entries}
-use Rattle.record_tracks.specs.Directory.{key_of, block_front, block_of}
+use Rattle.std.proofs.lemmas.{Bool.cases_lt, List.get_or-drop, List.get_or-take, List.drop_all, List.length-take-le, List.Elements.All-drop}
+use Rattle.record_tracks.specs.{Entries.all_contents, Entries.all_entries, Directory.key_of, Directory.block_front, Directory.block_of}
 use Rattle.record_tracks.specs.Filled.{filled}
-use Rattle.record_tracks.proofs.Going.{IsShort, entries_short, goes_in, some_fit}
+use Rattle.record_tracks.proofs.{Going.IsShort, Going.entries_short, Going.goes_in, Going.some_fit, Filled.put_behind}
 use Rattle.record_tracks.proofs.DirectoryReading.{block_made, length-key}
-use Rattle.record_tracks.proofs.Filled.{put_behind}
 use Rattle.record_tracks.proofs.directories.write_block.Goals as goal
 
 pub returns-then-count-eq0-clause-block : goal.returns-then-count-eq0-clause-block

@@ -1,16 +1,13 @@
-use Rattle.std.proofs.Common.{◌≡◌, ◌∙◌, ap, sym, ℕ, suc, List, ◌+◌, ◌-◌, ◌*◌, ◌/◌, ◌≤◌, ◌++◌, length, drop, take, arith, append_assoc}
+use Rattle.std.proofs.Common.{◌≡◌, ◌∙◌, ap, sym, ℕ, suc, ◌+◌, ◌-◌, ◌*◌, ◌/◌, ◌≤◌, ◌++◌, length, drop, take, arith, append_assoc}
 use Rattle.std.proofs.Common.{append-nil, drop-drop}
 use Rattle.std.specs.List.{concat}
-use Rattle.std.proofs.lemmas.List.{take_all}
-use Rattle.std.proofs.lemmas.Slice.{take-put_mid}
-use Rattle.std.proofs.lemmas.List.Elements.{All-drop}
-use Rattle.record_tracks.specs.Entries.{all_contents, all_entries}
-use Rattle.record_tracks.specs.Directory.{going_in, block_of, blocks_of}
-use Rattle.record_tracks.proofs.Going.{IsShort, entries_short}
-use Rattle.record_tracks.proofs.DirectoryReading.{no_blocks, more_blocks, length-block, read_back}
+use Rattle.std.proofs.lemmas.{List.take_all, Slice.take-put_mid, List.Elements.All-drop}
+use Rattle.record_tracks.specs.{Entries.all_contents, Entries.all_entries, Directory.going_in, Directory.block_of, Directory.blocks_of}
+use Rattle.record_tracks.proofs.{Going.IsShort, Going.entries_short, DirectoryReading.length-block, DirectoryReading.read_back}
 use Rattle.record_tracks.proofs.directories.write_directory.Goals as goal
 
 pub loop-k-preserved : goal.loop-k-preserved
+unfolding blocks_of
 loop-k-preserved c =
     let all = all_entries (all_contents c.args.entries.now) in
     let left = drop c.loop-k.from all in
@@ -28,25 +25,22 @@ loop-k-preserved c =
     let others : drop (going_in 2 left) left ≡ drop c.write_block-from.result all = cc (drop-drop (going_in 2 left) c.loop-k.from all) in
     record {
       within = c.write_block-from.ensures.within;
-      blocks = c.loop-k.invariant.blocks ∙ ap (λ (m : ℕ). take start d ++ concat (blocks_of left m)) one
-          ∙ ap (λ (bs : List (List ℕ)). take start d ++ concat bs) (more_blocks left n)
-          ∙ ap (λ (xs : List (List ℕ)). take start d ++ (block_of left ++ concat (blocks_of xs n))) others
-          ∙ sym (append_assoc (take start d) (block_of left) (concat (blocks_of (drop c.write_block-from.result all) n)))
-          ∙ ap (λ (xs : List ℕ). (take start d ++ xs) ++ concat (blocks_of (drop c.write_block-from.result all) n))
-          (sym c.write_block-from.ensures.block) ∙ ap (λ (xs : List ℕ). xs ++ concat (blocks_of (drop c.write_block-from.result all) n))
-          (sym (take-put_mid start (start + 264 - start) d b ((k + 1) * 264) end there));
+      blocks = c.loop-k.invariant.blocks ∙ cc (
+        ap (λ (m : ℕ). take start d ++ concat (blocks_of left m)) one,
+        append_assoc (take start d) (block_of left) (concat (blocks_of (drop c.write_block-from.result all) n)),
+        take-put_mid start (start + 264 - start) d b ((k + 1) * 264) end there,
+      );
     }
 
 pub returns-clause-blocks : goal.returns-clause-blocks
+unfolding blocks_of
 returns-clause-blocks c =
     let all = all_entries (all_contents c.args.entries.now) in
     let blocks = length c.args.directory.now / 264 in
     let k : c.loop-k.k ≡ blocks = omega arith in
     let none : blocks - c.loop-k.k ≡ 0 = omega arith in
     let whole : length c.loop-k.directory ≤ c.loop-k.k * 264 = omega arith in sym (c.loop-k.invariant.blocks
-    ∙ ap (λ (n : ℕ). take (c.loop-k.k * 264) c.loop-k.directory ++ concat (blocks_of (drop c.loop-k.from all) n)) none
-    ∙ ap (λ (bs : List (List ℕ)). take (c.loop-k.k * 264) c.loop-k.directory ++ concat bs) (no_blocks (drop c.loop-k.from all))
-    ∙ append-nil (take (c.loop-k.k * 264) c.loop-k.directory) ∙ take_all (c.loop-k.k * 264) c.loop-k.directory whole)
+    ∙ rw (none, append-nil (take (c.loop-k.k * 264) c.loop-k.directory)) (take_all (c.loop-k.k * 264) c.loop-k.directory whole))
 
 pub returns-clause-read : goal.returns-clause-read
 returns-clause-read c =

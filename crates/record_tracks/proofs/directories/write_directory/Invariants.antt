@@ -1,7 +1,6 @@
 use Rattle.std.proofs.Common.{◌≡◌, ◌≤◌, ◌+◌, ◌-◌, ◌*◌, ◌/◌, ◌++◌, length, take, drop}
 use Rattle.std.specs.List.{concat}
-use Rattle.record_tracks.specs.Entries.{all_contents, all_entries}
-use Rattle.record_tracks.specs.Directory.{blocks_of}
+use Rattle.record_tracks.specs.{Entries.all_contents, Entries.all_entries, Directory.blocks_of}
 use Rattle.record_tracks.proofs.directories.write_directory.Given as goal
 
 -- the blocks so far are there, and behind them come those that begin with the entries that are left

@@ -1,21 +1,9 @@
-use Rattle.std.proofs.Common.{◌≡◌, ◌∙◌, ap, sym, refl, subst, ℕ, ◌+◌, ◌<◌, List, [], ◌∷◌, length, drop, take, get_or, arith, All, Option}
-use Rattle.std.proofs.Common.{Some, None, ◌≤◌}
-use Rattle.std.proofs.lemmas.List.{drop_more, get_or-map, length-map, drop_all, take_all}
-use Rattle.std.proofs.lemmas.List.Elements.{All-more}
-use Rattle.record_tracks.specs.declared.entries.NewEntry.{NewEntry}
-use Rattle.record_tracks.specs.declared.directory_faults.EntryFault.{EntryFault}
+use Rattle.std.proofs.Common.{◌≡◌, ◌∙◌, ap, sym, subst, ℕ, ◌+◌, ◌<◌, List, ◌∷◌, length, drop, take, get_or, arith, All, Option, Some, ◌≤◌}
+use Rattle.std.proofs.lemmas.List.{drop_more, get_or-map, length-map, drop_all, take_all, Elements.All-more}
+use Rattle.record_tracks.specs.declared.{entries.NewEntry.NewEntry, directory_faults.EntryFault.EntryFault}
 use Rattle.record_tracks.specs.Entries.{EntryContents, contents_of, all_contents, IsEntry}
 use Rattle.record_tracks.specs.DirectoryFaults.{entry_fault, refused_or, refused_from}
 use Rattle.record_tracks.proofs.directory_faults.refused_entry.Goals as goal
-
-none_refused : (number : ℕ) (before : Option (List ℕ)) → refused_from number before [] ≡ None
-unfolding refused_from
-none_refused number before = refl
-
-one_refused : (number : ℕ) (before : Option (List ℕ)) (e : EntryContents) (others : List EntryContents)
-    → refused_from number before (e ∷ others) ≡ refused_or number (entry_fault before e) (refused_from (number + 1) (Some e.name) others)
-unfolding refused_from
-one_refused number before e others = refl
 
 -- a loop over the entries that has passed so many
 module _ (entries : List NewEntry) (number : ℕ) (d : NewEntry) (there : number < length entries) where
@@ -31,9 +19,12 @@ module _ (entries : List NewEntry) (number : ℕ) (d : NewEntry) (there : number
   next_refused : (before : Option (List ℕ)) (f : Option EntryFault) → f ≡ entry_fault before e
       → refused_from number before (drop number (all_contents entries))
       ≡ refused_or number f (refused_from (number + 1) (Some e.name) (drop (number + 1) (all_contents entries)))
+  unfolding refused_from
   next_refused before f fault =
       let rest = drop (number + 1) (all_contents entries) in
-      cc (drop_more (all_contents entries) number (contents_of d) here, is, one_refused number before e rest)
+      ap (refused_from number before) (drop_more (all_contents entries) number (contents_of d) here)
+      ∙ ap (λ x. refused_from number before (x ∷ rest)) is
+      ∙ ap (λ o. refused_or number o (refused_from (number + 1) (Some e.name) rest)) (sym fault)
 
   more_are : All IsEntry (take number (all_contents entries)) → IsEntry e → All IsEntry (take (number + 1) (all_contents entries))
   more_are so_far fits = All-more IsEntry (all_contents entries) number (contents_of d) here so_far (subst IsEntry (sym is) fits)
@@ -52,12 +43,12 @@ loop-number-preserved c = record {
 }
 
 pub returns : goal.returns
+unfolding refused_from
 returns c =
     let entries = all_contents c.args.entries.now in
     let past : length entries ≤ c.loop-number.number = omega (arith, length-map c.args.entries.now contents_of) in
     let none = c.loop-number.invariant.refused
-    ∙ ap (refused_from c.loop-number.number c.loop-number.before) (drop_all c.loop-number.number entries past)
-    ∙ none_refused c.loop-number.number c.loop-number.before in
+    ∙ ap (refused_from c.loop-number.number c.loop-number.before) (drop_all c.loop-number.number entries past) in
     record {
       fault = sym none;
       fits = record {

@@ -1,6 +1,5 @@
 use Rattle.std.proofs.Common.{◌≡◌, All, take, drop}
-use Rattle.record_tracks.specs.Entries.{all_contents, IsEntry}
-use Rattle.record_tracks.specs.DirectoryFaults.{refused_from, refused_entry}
+use Rattle.record_tracks.specs.{Entries.all_contents, Entries.IsEntry, DirectoryFaults.refused_from, DirectoryFaults.refused_entry}
 use Rattle.record_tracks.proofs.directory_faults.refused_entry.Given as goal
 
 -- none of the entries so far is refused

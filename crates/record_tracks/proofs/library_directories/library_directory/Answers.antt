@@ -1,10 +1,6 @@
-use Rattle.std.proofs.Common.{◌≡◌, ◌∙◌, ap, sym, subst, List, []}
-use Rattle.record_tracks.specs.Entries.{EntryContents, all_contents, all_entries}
-use Rattle.record_tracks.specs.Directory.{left_behind}
-use Rattle.record_tracks.specs.DirectoryFaults.{AreEntries}
-use Rattle.record_tracks.specs.MemberEntries.{directory_entries}
-use Rattle.record_tracks.proofs.Members.{are_records}
-use Rattle.record_tracks.proofs.OwnRead.{own_read}
+use Rattle.std.proofs.Common.{◌≡◌, ◌∙◌, ap, sym}
+use Rattle.record_tracks.specs.{Entries.all_contents, MemberEntries.directory_entries}
+use Rattle.record_tracks.proofs.{Members.are_records, OwnRead.own_read}
 use Rattle.record_tracks.proofs.library_directories.library_directory.Goals as goal
 
 pub length_fault-requires : goal.length_fault-requires
@@ -30,6 +26,5 @@ returns-clause-read c =
     let l = c.args.library.now in
     let is : all_contents c.deref-4.result.now ≡ directory_entries c.args.model l =
     ap all_contents c.deref-4.ensures.value ∙ c.in_ok-entries.ensures in
-    own_read c.args.model l c.requires c.in_default.ensures.lead (subst AreEntries is c.in_default-directory_fault.ensures.entries)
-    (subst (λ (es : List EntryContents). left_behind (all_entries es) l.directory_blocks ≡ []) is
-    c.in_default-directory_fault.ensures.room)
+    own_read c.args.model l c.requires c.in_default.ensures.lead (rw is at c.in_default-directory_fault.ensures.entries)
+    (rw is at c.in_default-directory_fault.ensures.room)

@@ -1,6 +1,5 @@
 use Rattle.std.proofs.Common.{◌≡◌, flat_map, map, take, drop}
-use Rattle.record_tracks.specs.Entries.{all_contents}
-use Rattle.record_tracks.specs.MemberEntries.{entry_user_data, entry_contents}
+use Rattle.record_tracks.specs.{Entries.all_contents, MemberEntries.entry_user_data, MemberEntries.entry_contents}
 use Rattle.record_tracks.proofs.library_directories.new_entries.Given as goal
 
 -- the entries so far, and the user data of those that are left

@@ -1,14 +1,9 @@
-use Rattle.std.proofs.Common.{◌≡◌, ◌<◌, ◌≤◌, refl, ℕ, List, Bool, true, false, get_or, length, nat_le, arith, All, None, ◌∙◌, sym}
-use Rattle.std.specs.List.{position, position_or_len, list_any}
-use Rattle.std.proofs.lemmas.Bool.Decides.{nat_tests}
+use Rattle.std.proofs.Common.{inl, inr, ◌≡◌, ◌<◌, ◌≤◌, ℕ, List, Bool, false, get_or, length, nat_le, arith, All, None, ◌∙◌, sym}
+use Rattle.std.proofs.lemmas.{Bool.cases_Bool, Bool.Decides.nat_tests, List.Sums.fails_before_first, List.Folds.list_any_at}
 use Rattle.std.proofs.lemmas.Grind.{common_steps}
-use Rattle.std.proofs.lemmas.List.Sums.{fails_before_first}
-use Rattle.std.proofs.lemmas.List.Folds.{list_any_at}
-use Rattle.record_tracks.specs.declared.libraries.NewLibrary.{NewLibrary}
-use Rattle.record_tracks.specs.declared.libraries.MemberNote.{MemberNote}
-use Rattle.record_tracks.specs.Library.{blocks_of_member}
-use Rattle.record_tracks.specs.LibraryFaults.{lacks_member, lacks_block}
-use Rattle.record_tracks.specs.Placed.{Leads}
+use Rattle.std.specs.List.{position, position_or_len, list_any}
+use Rattle.record_tracks.specs.{declared.libraries.NewLibrary.NewLibrary, declared.libraries.MemberNote.MemberNote, Placed.Leads}
+use Rattle.record_tracks.specs.{Library.blocks_of_member, LibraryFaults.lacks_member, LibraryFaults.lacks_block}
 use Rattle.record_tracks.proofs.library_faults.leading_fault.Goals as goal
 
 none_passes : {X : Type 0} (p : X → Bool) (xs : List X) → position p xs ≡ None → All (λ x. p x ≡ false) xs
@@ -16,11 +11,10 @@ none_passes p xs none k d there =
     let past : length xs ≤ position_or_len p xs = grind (arith, common_steps) in fails_before_first p xs k d (omega arith)
 
 not_any : {X : Type 0} (p : X → Bool) (xs : List X) → list_any p xs ≡ false → All (λ x. p x ≡ false) xs
-not_any p xs none k d there = by (p (get_or xs k d)) refl
-  where
-    by : (b : Bool) → p (get_or xs k d) ≡ b → b ≡ false
-    by true is = let some = list_any_at p xs k d there is in cc
-    by false is = refl
+not_any p xs none k d there = elim (cases_Bool (p (get_or xs k d))) [
+  | inl is ↦ let some = list_any_at p xs k d there is in absurd cc
+  | inr is ↦ is
+]
 
 below : (n m : ℕ) → nat_le n m ≡ false → m < n
 below n m is = grind (arith, nat_tests)

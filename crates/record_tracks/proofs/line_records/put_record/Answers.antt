@@ -1,7 +1,4 @@
-use Rattle.std.proofs.Common.{arith, subst, ◌+◌}
-use Rattle.std.specs.Str.{chars}
-use Rattle.record_tracks.specs.Codes.{codes_of}
-use Rattle.record_tracks.specs.Putting.{PutsCodes}
+use Rattle.std.proofs.Common.{arith, ◌+◌}
 use Rattle.record_tracks.proofs.Joined.{not_utf8, is_too_long, is_filled}
 use Rattle.record_tracks.proofs.line_records.put_record.Goals as goal
 
@@ -10,19 +7,9 @@ returns-in_default c = not_utf8 c.args.size c.args.line.now c.in_default.ensures
 
 pub returns-then-len-start : goal.returns-then-len-start
 returns-then-len-start c =
-    let put = subst (PutsCodes (codes_of (chars c.in-Ok.text.now)) c.args.records.now.items c.put_characters.new.records.items)
-    c.if-not-branch.false c.in_ok-put_characters.ensures in
     is_too_long c.args.size c.args.line.now c.in-Ok.text.now c.args.records.now.items c.put_characters.new.records.items
-    c.in-Ok.ensures.cases.1 c.in-Ok.ensures.cases.0 put
-    (omega (
-      arith,
-      c.if-len-start.true,
-      c.from-size.ensures,
-      c.len.ensures,
-      c.len-start.ensures,
-      c.args.records.now.ok.0,
-      c.put_characters.new.records.ok.0,
-    ))
+    c.in-Ok.ensures.cases.1 c.in-Ok.ensures.cases.0 (rw c.if-not-branch.false at c.in_ok-put_characters.ensures)
+    (omega (arith, c.args.records.now.ok.0, c.put_characters.new.records.ok.0))
 
 pub overflow_add-start : goal.overflow_add-start
 overflow_add-start c =
@@ -30,18 +17,9 @@ overflow_add-start c =
 
 pub returns : goal.returns
 returns c =
-    let put = subst (PutsCodes (codes_of (chars c.in-Ok.text.now)) c.args.records.now.items c.put_characters.new.records.items)
-    c.if-not-branch.false c.in_ok-put_characters.ensures in
     is_filled c.args.size c.args.line.now c.in-Ok.text.now c.args.records.now.items c.put_characters.new.records.items
-    c.in-Ok.ensures.cases.1 c.in-Ok.ensures.cases.0 put c.resize.new.self.items (c.len-start.result + c.from-size.result)
-    (omega (
-      arith,
-      c.if-len-start.false,
-      c.from-size.ensures,
-      c.len.ensures,
-      c.len-start.ensures,
-      c.args.records.now.ok.0,
-      c.put_characters.new.records.ok.0,
-    ))
-    (omega (arith, c.from-size.ensures, c.len-start.ensures, c.args.records.now.ok.0))
+    c.in-Ok.ensures.cases.1 c.in-Ok.ensures.cases.0 (rw c.if-not-branch.false at c.in_ok-put_characters.ensures)
+    c.resize.new.self.items (c.len-start.result + c.from-size.result)
+    (omega (arith, c.args.records.now.ok.0, c.put_characters.new.records.ok.0))
+    (omega (arith, c.args.records.now.ok.0))
     (cc (c.in_ok-resize.ensures.items, c.put_characters.new.records.ok.0))

@@ -1,8 +1,7 @@
 use Rattle.std.proofs.Common.{[], ◌∷◌, map, append_assoc, arith}
 use Rattle.std.specs.List.{range_with_len}
 use Rattle.std.proofs.lemmas.List.FromFn.{map-range_with_len_more}
-use Rattle.record_tracks.specs.Records.{all_areas}
-use Rattle.record_tracks.specs.Library.{directory_area}
+use Rattle.record_tracks.specs.{Records.all_areas, Library.directory_area}
 use Rattle.record_tracks.proofs.member_records.push_directory.Goals as goal
 
 pub loop-k-preserved : goal.loop-k-preserved

@@ -1,7 +1,6 @@
 use Rattle.std.proofs.Common.{◌≡◌, ◌++◌, map}
 use Rattle.std.specs.List.{range_with_len}
-use Rattle.record_tracks.specs.Records.{all_areas}
-use Rattle.record_tracks.specs.Library.{directory_area}
+use Rattle.record_tracks.specs.{Records.all_areas, Library.directory_area}
 use Rattle.record_tracks.proofs.member_records.push_directory.Given as goal
 
 -- the blocks so far

@@ -1,6 +1,5 @@
 use Rattle.std.proofs.Common.{◌≡◌, ◌++◌, take}
-use Rattle.record_tracks.specs.Records.{all_areas}
-use Rattle.record_tracks.specs.Library.{members_areas}
+use Rattle.record_tracks.specs.{Records.all_areas, Library.members_areas}
 use Rattle.record_tracks.proofs.member_records.push_members.Given as goal
 
 -- the members so far

@@ -1,5 +1,4 @@
-use Rattle.std.proofs.Common.{◌∙◌, subst, ℕ, List, ◌++◌, arith, length-append}
-use Rattle.record_tracks.specs.Filled.{PutBehind}
+use Rattle.std.proofs.Common.{◌∙◌, ◌++◌, arith, length-append}
 use Rattle.record_tracks.proofs.Filled.{two_puts}
 use Rattle.record_tracks.proofs.slots.append_record.Goals as goal
 
@@ -12,7 +11,5 @@ returns-clause-written c =
     let first = two_puts c.args.at c.append-at.result count key s0 c.append-at.new.room c.append-at-2.new.room
     c.append-at.ensures.written c.append-at-2.ensures.written c.append-at.ensures.next c.append-at.ensures.same in
     let both = two_puts c.args.at c.append-at-2.result (count ++ key) bytes s0 c.append-at-2.new.room c.append.new.room
-    first c.append.ensures.written
-    (omega (arith, length-append count key))
-    (c.append-at-2.ensures.same ∙ c.append-at.ensures.same) in
-    subst (λ (xs : List ℕ). PutBehind c.args.at ((xs ++ key) ++ bytes) s0 c.append.new.room) c.count_bytes.ensures both
+    first c.append.ensures.written (omega (arith, length-append count key)) (c.append-at-2.ensures.same ∙ c.append-at.ensures.same) in
+    rw c.count_bytes.ensures at both

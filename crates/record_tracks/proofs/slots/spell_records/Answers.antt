@@ -1,17 +1,12 @@
-use Rattle.std.proofs.Common.{◌≡◌, ◌∙◌, ap, sym, refl, subst, ◌+◌, ◌-◌, ◌<◌, length, take, drop, get_or, length-append, arith, List, ℕ}
-use Rattle.std.proofs.lemmas.List.{get_or-drop}
-use Rattle.std.proofs.lemmas.List.Elements.{All-get_or}
+use Rattle.std.proofs.Common.{◌≡◌, ◌∙◌, ap, sym, refl, ◌+◌, ◌-◌, ◌<◌, length, take, drop, get_or, length-append, arith, ℕ}
+use Rattle.std.proofs.lemmas.List.{get_or-drop, Elements.All-get_or}
 use Rattle.ckd_track.specs.Track.{record_bytes}
-use Rattle.record_tracks.specs.Records.{areas_of, all_areas, end_of_file, GoesOn}
-use Rattle.record_tracks.specs.Tracks.{record_with, fitting_on, track_bytes}
-use Rattle.record_tracks.specs.Writing.{records_front}
-use Rattle.record_tracks.specs.Filled.{filled, PutBehind}
-use Rattle.record_tracks.proofs.Listed.{length-all, length-left, all_go}
-use Rattle.record_tracks.proofs.Fitting.{fits_on, sizes, few_bytes}
-use Rattle.record_tracks.proofs.Filled.{put_behind}
+use Rattle.record_tracks.specs.{Records.areas_of, Records.all_areas, Records.end_of_file, Records.GoesOn, Filled.filled}
+use Rattle.record_tracks.specs.{Tracks.record_with, Tracks.fitting_on, Tracks.track_bytes, Writing.records_front}
+use Rattle.record_tracks.proofs.{Listed.length-all, Listed.length-left, Listed.all_go, slots.spell_records.Goals.After-record_at}
+use Rattle.record_tracks.proofs.{Fitting.fits_on, Fitting.sizes, Fitting.few_bytes, Filled.put_behind}
 use Rattle.record_tracks.proofs.Spelled.{one_more_record, length-front, length-record_with, no_areas, room_for_one, room_for_all}
 use Rattle.record_tracks.proofs.slots.spell_records.Goals as goal
-use Rattle.record_tracks.proofs.slots.spell_records.Goals.{After-record_at}
 
 pub overflow_cast-k : goal.overflow_cast-k
 overflow_cast-k c = let most = (fits_on c.args.geometry.model 0 (drop c.args.part.0 (all_areas c.args.blocks.now))).few in omega arith
@@ -29,8 +24,7 @@ next_goes c =
     let all = all_areas c.args.blocks.now in
     let number = c.args.part.0 + c.loop-k.k in
     let there : number < length all = omega (arith, length-all c.args.blocks.now) in
-    subst (GoesOn c.args.geometry.model) (sym c.record_at.ensures)
-    (All-get_or (GoesOn c.args.geometry.model) all number end_of_file there
+    rw c.record_at.ensures (All-get_or (GoesOn c.args.geometry.model) all number end_of_file there
     (all_go c.args.geometry.model c.args.blocks.now c.requires.each))
 
 pub append_record-at-requires : goal.append_record-at-requires
@@ -61,8 +55,7 @@ loop-k-preserved c =
     let a = areas_of c.record_at.result in
     let bytes = record_bytes (record_with (track_bytes g c.args.track) (k + 1) a) in
     let one = one_more_record g c.args.track k left a (next_there before) (next_is before) in
-    let put = subst (λ (t : List ℕ). PutBehind c.loop-k.at (record_bytes (record_with t (k + 1) a)) c.loop-k.slot
-    c.append_record-at.new.slot) c.track_bytes-id.ensures c.append_record-at.ensures.written in
+    let put = rw c.track_bytes-id.ensures at c.append_record-at.ensures.written in
     let size = length-record_with (track_bytes g c.args.track) (k + 1) a refl in record {
       size = c.append_record-at.ensures.same ∙ c.loop-k.invariant.size;
       place = omega (arith, ap length one, length-append front bytes);

@@ -1,7 +1,5 @@
 use Rattle.std.proofs.Common.{◌≡◌, length, take, drop}
-use Rattle.record_tracks.specs.Records.{all_areas}
-use Rattle.record_tracks.specs.Writing.{records_front}
-use Rattle.record_tracks.specs.Filled.{filled}
+use Rattle.record_tracks.specs.{Records.all_areas, Writing.records_front, Filled.filled}
 use Rattle.record_tracks.proofs.slots.spell_records.Given as goal
 
 -- the slot has the records so far, and zeros behind them

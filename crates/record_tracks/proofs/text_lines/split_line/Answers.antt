@@ -1,28 +1,16 @@
-use Rattle.std.proofs.Common.{◌≡◌, ◌≢◌, ◌<◌, ◌+◌, ◌-◌, length-drop, ℕ, zero, suc, ◌==◌, true, false, cond, List, [], ◌∷◌, length, take}
+use Rattle.std.proofs.lemmas.{Bool.ne_eqb, List.take_all}
+use Rattle.std.proofs.Common.{◌≡◌, ◌≢◌, ◌<◌, ◌+◌, ◌-◌, length-drop, ℕ, zero, suc, ◌==◌, true, false, List, [], ◌∷◌, length, take}
 use Rattle.std.proofs.Common.{drop, get_or, ap, refl, arith}
-use Rattle.std.proofs.lemmas.List.{take_all}
-use Rattle.record_tracks.specs.Lines.{in_front, lines_of}
+use Rattle.record_tracks.specs.Lines.{lines_of}
 use Rattle.record_tracks.proofs.text_lines.split_line.Goals as goal
 
-no_feed : (b : ℕ) → b ≢ 10 → (b == 10) ≡ false
-no_feed b other = grind arith
-
-feed : (b : ℕ) → b ≡ 10 → (b == 10) ≡ true
-feed b same = grind arith
-
-step : (b : ℕ) (bs : List ℕ) → lines_of (b ∷ bs) ≡ cond (b == 10) ([] ∷ lines_of bs) (in_front b (lines_of bs))
-unfolding lines_of
-step b bs = refl
-
-nothing : lines_of [] ≡ []
-unfolding lines_of
-nothing = refl
-
 ends_here : (b : ℕ) (bs : List ℕ) → b ≡ 10 → lines_of (b ∷ bs) ≡ [] ∷ lines_of bs
-ends_here b bs same = cc (step b bs, feed b same)
+unfolding lines_of
+ends_here b bs same = let feed : (b == 10) ≡ true = grind arith in rw feed refl
 
 goes_on : (b : ℕ) (bs : List ℕ) (l : List ℕ) (ls : List (List ℕ)) → b ≢ 10 → lines_of bs ≡ l ∷ ls → lines_of (b ∷ bs) ≡ (b ∷ l) ∷ ls
-goes_on b bs l ls other e = cc (step b bs, no_feed b other)
+unfolding lines_of
+goes_on b bs l ls other e = let no_feed : (b == 10) ≡ false = grind arith in rw (no_feed, e) refl
 
 -- the first line feed ends the first line
 first_line : (text : List ℕ) (end : ℕ) → end < length text → ((k : ℕ) → k < end → get_or text k 0 ≢ 10) → get_or text end 0 ≡ 10
@@ -34,8 +22,9 @@ first_line (b ∷ bs) (suc end) inside none is = goes_on b bs (take end bs) (lin
 
 -- where there is no line feed, all of it is the first line
 last_line : (text : List ℕ) → 0 < length text → ((k : ℕ) → k < length text → get_or text k 0 ≢ 10) → lines_of text ≡ text ∷ lines_of []
+unfolding lines_of
 last_line [] some none = absurd (omega arith)
-last_line (b ∷ []) some none = cc (step b [], no_feed b (none 0 (omega arith)), nothing)
+last_line (b ∷ []) some none = let no_feed : (b == 10) ≡ false = ne_eqb b 10 (none 0 (omega arith)) in rw no_feed refl
 last_line (b ∷ d ∷ bs) some none = goes_on b (d ∷ bs) (d ∷ bs) (lines_of []) (none 0 (omega arith))
     (last_line (d ∷ bs) (omega arith) (λ k h. none (suc k) (omega arith)))
 

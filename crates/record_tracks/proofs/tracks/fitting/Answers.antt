@@ -1,8 +1,6 @@
 use Rattle.std.proofs.Common.{◌≡◌, ◌∙◌, ◌+◌, ◌-◌, ap, sym, length, get_or, drop, arith, ℕ}
-use Rattle.record_tracks.specs.Records.{all_areas, end_of_file, charge_for, last_charge_for}
-use Rattle.record_tracks.specs.Tracks.{fitting}
-use Rattle.record_tracks.proofs.Listed.{length-left, area_at}
-use Rattle.record_tracks.proofs.Fitting.{stops, goes_on, ends, charges}
+use Rattle.record_tracks.specs.{Records.all_areas, Records.end_of_file, Records.charge_for, Records.last_charge_for, Tracks.fitting}
+use Rattle.record_tracks.proofs.{Listed.length-left, Listed.area_at, Fitting.stops, Fitting.goes_on, Fitting.ends, Fitting.charges}
 use Rattle.record_tracks.proofs.tracks.fitting.Goals as goal
 
 pub returns-then-taken-last_charge_for-clause-count : goal.returns-then-taken-last_charge_for-clause-count

@@ -1,6 +1,5 @@
 use Rattle.std.proofs.Common.{◌≡◌, ◌+◌, ◌<◌, drop}
-use Rattle.record_tracks.specs.Records.{all_areas}
-use Rattle.record_tracks.specs.Tracks.{fitting, fitting_on}
+use Rattle.record_tracks.specs.{Records.all_areas, Tracks.fitting, Tracks.fitting_on}
 use Rattle.record_tracks.proofs.tracks.fitting.Given as goal
 
 -- those so far fit, and behind them as many as fit behind what they take

@@ -1,8 +1,6 @@
 use Rattle.std.proofs.Common.{◌∙◌, ◌<◌, ◌+◌, ap, sym, ℕ, drop, length, arith, zero-add}
-use Rattle.record_tracks.specs.Records.{all_areas}
-use Rattle.record_tracks.specs.Tracks.{fitting_on}
-use Rattle.record_tracks.proofs.Listed.{length-all, all_go}
-use Rattle.record_tracks.proofs.Fitting.{fits_on, none_behind, some_fit, one_more}
+use Rattle.record_tracks.specs.{Records.all_areas, Tracks.fitting_on}
+use Rattle.record_tracks.proofs.{Listed.length-all, Listed.all_go, Fitting.fits_on, Fitting.none_behind, Fitting.some_fit, Fitting.one_more}
 use Rattle.record_tracks.proofs.tracks.place_of.Goals as goal
 
 pub loop-behind-init : goal.loop-behind-init

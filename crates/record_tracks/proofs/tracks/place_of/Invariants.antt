@@ -1,6 +1,5 @@
 use Rattle.std.proofs.Common.{◌≡◌, ◌≤◌, ◌+◌, ◌-◌, drop, length}
-use Rattle.record_tracks.specs.Records.{all_areas}
-use Rattle.record_tracks.specs.Tracks.{fitting_on, left_behind}
+use Rattle.record_tracks.specs.{Records.all_areas, Tracks.fitting_on, Tracks.left_behind}
 use Rattle.record_tracks.proofs.tracks.place_of.Given as goal
 
 -- this track begins with this record, and the next one with that

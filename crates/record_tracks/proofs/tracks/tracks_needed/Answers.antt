@@ -1,9 +1,8 @@
 use Rattle.std.proofs.Common.{◌≡◌, ◌∙◌, ◌<◌, sym, length, arith}
 use Rattle.std.proofs.lemmas.List.{drop_all}
 use Rattle.record_tracks.specs.Records.{all_areas}
-use Rattle.record_tracks.proofs.Listed.{length-all, all_go}
+use Rattle.record_tracks.proofs.{Listed.length-all, Listed.all_go, Reading.read_back, Reading.read_as_data}
 use Rattle.record_tracks.proofs.Fitting.{none_behind, some_fit, some_left, one_more}
-use Rattle.record_tracks.proofs.Reading.{read_back, read_as_data}
 use Rattle.record_tracks.proofs.tracks.tracks_needed.Goals as goal
 
 pub loop-next-init : goal.loop-next-init
@@ -32,7 +31,7 @@ loop-next-preserved c =
       few = omega arith;
       left = cc (one_more m all next c.loop-next.tracks c.loop-next.invariant.left);
       fewest = λ n is none.
-          let last : n ≡ c.loop-next.tracks = omega arith in some_left m all next there (cc);
+          let last : n ≡ c.loop-next.tracks = omega arith in some_left all next there (cc);
     }
 
 pub returns : goal.returns

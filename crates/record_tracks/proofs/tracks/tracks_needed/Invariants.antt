@@ -1,6 +1,5 @@
 use Rattle.std.proofs.Common.{◌≡◌, ◌≢◌, ◌≤◌, ◌-◌, ℕ, suc, [], drop, length}
-use Rattle.record_tracks.specs.Records.{all_areas}
-use Rattle.record_tracks.specs.Tracks.{left_behind}
+use Rattle.record_tracks.specs.{Records.all_areas, Tracks.left_behind}
 use Rattle.record_tracks.proofs.tracks.tracks_needed.Given as goal
 
 -- what is left behind the tracks so far; each of them has something
