@@ -1,6 +1,6 @@
 -- How often a call uses the store, and what a call leaves that fails.
-use Rattle.std.proofs.Common.{◌≡◌, ◌∙◌, inl, inr, ap, sym, refl, ℕ, ◌+◌, List, Bool, true, false, ◌||◌, arith, [], ◌==◌, Option, Some, None}
-use Rattle.std.proofs.Common.{slice_index_or, ◌∷◌, length, slice_set, unwrap_or}
+use Rattle.std.proofs.Common.{rules, ◌≡◌, ◌∙◌, inl, inr, ap, sym, refl, ℕ, ◌+◌, List, Bool, true, false, arith, [], ◌==◌, Option}
+use Rattle.std.proofs.Common.{Some, None, slice_index_or, ◌∷◌, length, unwrap_or}
 use Rattle.std.proofs.Math.Bool.{or-false}
 use Rattle.ckd_slot.specs.Cache.{CacheState, saved, after_save, after_failed_save, after_failed_hold}
 use Rattle.ckd_command.specs.Drive.{is_written_by, LoadFails, SaveFails, number_under, Fault}
@@ -27,37 +27,18 @@ no_more n e = omega (arith, e)
 
 -- where no command half done has changed the slot at hand, it is changed just where its track is written
 pub changed_is : (d : Parts) → Stands d → is_filled d.stage d.job ≡ false → d.job.cache.changed ≡ is_written_by d.mark
-changed_is d x f = (let marked : d.job.cache.changed ≡ (is_written_by d.mark || false) = rw f at x.marked in marked
-    ∙ or-false (is_written_by d.mark))
+changed_is d x f = rw f at x.marked ∙ or-false (is_written_by d.mark)
 
 pub loads_saved : (c : CacheState) → (after_save c).image.loads ≡ c.image.loads
 loads_saved c = elim c.changed as (λ b. (saved c.image c.slots b).loads ≡ c.image.loads) [ true ↦ refl | false ↦ refl ]
 
 -- the store is not called
 pub calls_none : (loads saves : Bool) (old new : DriveState) → new.image ≡ old.image → saves ≡ false → CallsStore loads saves old new
-calls_none loads saves old new e s = rw (e, s) (record {
-  loads = inl refl;
-  saves = omega arith;
-  failures = inl refl;
-  slots =
-      λ _. refl;
-  untouched = λ _ _. refl;
-  lasting = refl;
-  geometry = refl;
-})
+calls_none loads saves old new e s = rw (e, s) (search (rules, arith))
 
 save_by : (loads b : Bool) (old new : DriveState) (c : CacheState) (slots : List (List ℕ)) → old.image ≡ c.image
     → new.image ≡ saved c.image slots b → CallsStore loads b old new
-save_by loads true old new c slots e f = rw (e, f) (record {
-  loads = inl refl;
-  saves = omega arith;
-  failures = inl refl;
-  slots =
-      λ s. absurd cc;
-  untouched = λ s _. absurd cc;
-  lasting = refl;
-  geometry = refl;
-})
+save_by loads true old new c slots e f = rw (e, f) (search (rules, arith))
 save_by loads false old new c slots e f = calls_none loads false old new (f ∙ sym e) refl
 
 -- the track is saved, if it was written
@@ -68,32 +49,12 @@ calls_of_save loads saves c old new e f s = rw (← s) (save_by loads c.changed 
 -- its saving fails: by each thing that the calls tell of it
 pub calls_of_failed_save : (loads saves : Bool) (c : CacheState) (left : List ℕ) (old new : DriveState) → old.image ≡ c.image
     → new.image ≡ (after_failed_save c left).image → c.changed ≡ saves → c.changed ≡ true → CallsStore loads saves old new
-calls_of_failed_save loads saves c left old new e f s changed =
-    let saves_is : saves ≡ true = sym s ∙ changed in
-    rw (e, f, saves_is) (record {
-      loads = inl refl;
-      saves = omega arith;
-      failures = inr (refl, inl refl);
-      slots = λ s. absurd cc;
-      untouched = λ s _. absurd cc;
-      lasting = refl;
-      geometry = refl;
-    })
+calls_of_failed_save loads saves c left old new e f s changed = rw (e, f, sym s ∙ changed) (search (rules, arith))
 
 -- a load fails
 pub calls_of_failed_hold : (loads saves : Bool) (c : CacheState) (old new : DriveState) → old.image ≡ c.image
     → new.image ≡ (after_failed_hold c).image → loads ≡ true → saves ≡ false → CallsStore loads saves old new
-calls_of_failed_hold loads saves c old new e f l s =
-    rw (e, f, l, s) (record {
-      loads = inr (refl, refl, refl);
-      saves = omega arith;
-      failures = inr (refl, inr refl);
-      slots =
-          λ _. refl;
-      untouched = λ _ e. absurd (no_more c.image.loads (sym e));
-      lasting = refl;
-      geometry = refl;
-    })
+calls_of_failed_hold loads saves c old new e f l s = rw (e, f, l, s) (search (rules, arith, no_more))
 
 -- the track was loaded first: by what the calls tell before and behind the load
 pub calls_behind_load : (loads saves : Bool) (old held new : DriveState) → held.image ≡ record old.image { loads = old.image.loads + 1 }
@@ -155,21 +116,19 @@ pub save_lost : (d : Parts) (h h' : HalfDone) (m : Mark) (new : DriveState) → 
     → h.cache ≡ d.job.cache → (l : Loses h h' m) → new.image ≡ (after_failed_save d.job.cache l.left).image → SaveLost d l.left new
 save_lost d h h' m new x f same l image =
     let c = d.job.cache in
-    let n = own_track d.job in
     let left = l.left in
     let changed : c.changed ≡ true = rw same at l.changed in
-    let held : c.held ≡ Some n = x.anchored changed in
+    let held : c.held ≡ Some (own_track d.job) = x.anchored changed in
     let there : left ≡ slice_index_or (after_failed_save c left).image.slots (unwrap_or c.held 0) [] =
     rw same at (l.there ∙ ap (λ (k : HalfDone). slice_index_or k.cache.image.slots (unwrap_or h.cache.held 0) []) l.job) in
-    let left_is : slice_index_or (slice_set c.slots n left) n [] ≡ left = sym (rw held at there) in
     let old : length (own_slot d.job) ≡ c.image.geometry.track_size =
-    All-get_or (λ slot. length slot ≡ c.image.geometry.track_size) c.slots n [] (number_there d x) x.volume.sizes in
+    All-get_or (λ slot. length slot ≡ c.image.geometry.track_size) c.slots (own_track d.job) [] (number_there d x) x.volume.sizes in
     record {
       held = held;
       written = mark_written d.mark (sym (changed_is d x f) ∙ changed);
       whole = overwritten_whole (own_slot d.job) left (rw same at l.size ∙ sym old);
       fault = fault_saving (state_of d) new (ap (λ (i : ImageState). i.failures) image) (ap (λ (i : ImageState). i.saves) image)
-          ∙ rw (image, held, left_is) refl;
+          ∙ rw (image, held, sym (rw held at there)) refl;
     }
 
 -- where a part of a call stands that has saved the track, if it was written

@@ -1,5 +1,5 @@
 -- How commands end.
-use Rattle.std.proofs.Common.{rules, inl, inr, subst, ◌≡◌, ◌∙◌, ap, sym, refl, ℕ, ◌+◌, ◌<◌, List, [], ◌∷◌, ◌++◌, Bool, true, false, ◌&&◌}
+use Rattle.std.proofs.Common.{rules, inl, inr, subst, ◌≡◌, ◌∙◌, ap, sym, refl, ℕ, ◌+◌, ◌<◌, List, [], ◌∷◌, Bool, true, false, ◌&&◌}
 use Rattle.std.proofs.Common.{◌||◌, ◌==◌, nat_lt, if◌then◌else◌, Option, Some, None, length, take, set-set, get_or-set_same, slice_set}
 use Rattle.std.proofs.Common.{slice_range, append-nil, length-drop, bytes_eq, arith}
 use Rattle.std.proofs.lemmas.List.{set-get_or}
@@ -23,7 +23,7 @@ use Rattle.ckd_drive.specs.declared.transfer.Transfer.TheVariants.{Field, Search
 use Rattle.ckd_drive.specs.declared.answers.DriveStage.TheVariants.{Idle}
 use Rattle.ckd_command.specs.Tables.{action_of}
 use Rattle.ckd_position.specs.Contents.{Sighted}
-use Rattle.ckd_command.specs.Commands.{Closing, IsAtTrack, area_bytes, closing, close_by, command_end, search_ends, own_home_address}
+use Rattle.ckd_command.specs.Commands.{Closing, IsAtTrack, area_bytes, close_by, command_end, search_ends, own_home_address}
 use Rattle.ckd_command.specs.Commands.{new_record_fits, number as number_of, whole_field, at_end}
 use Rattle.ckd_slot.specs.Cache.{CacheState, after_save, after_failed_save}
 use Rattle.ckd_drive.specs.Invariant.{Stands, HasFilled, state_of, IsPlaced, IsField, CreditIs, AtHand, seen_by, track_under, is_filled}
@@ -69,18 +69,15 @@ pub command_end_is : (job : AtWork) (p : Transfer) (moved : ℕ)
     → command_end (closing_in job (seen_track job p)) ≡ command_end_at (geometry_in job) job.registers job.opened moved p
 command_end_is job (Due w number count) moved made lt x m = absurd cc
 command_end_is job (Filled w u) moved made lt x m =
-    let k = x.filled.closes [] (omega arith) in
-    let same : job.passed ++ [] ≡ job.passed = append-nil job.passed in
-    rw (get_or-set_same job.cache.slots (number_in job) job.before [] lt) (rw same at k.so)
+    rw (get_or-set_same job.cache.slots (number_in job) job.before [] lt)
+    (rw (append-nil job.passed) at (x.filled.closes [] (omega arith)).so)
 command_end_is job (Field f) moved made lt x m =
     let t = track_of (slot_in job) in
     let a = action_of job.opened.command in
-    let is : closing (geometry_in job) t job.opened job.registers job.passed ≡ close_by a (geometry_in job) t job.opened job.registers
-    job.passed = closing_by a (geometry_in job) t job.opened job.registers job.passed refl in
+    let is = closing_by a (geometry_in job) t job.opened job.registers job.passed refl in
     let plain = field_closes a (geometry_in job) t job.opened job.registers job.passed x.0.is_field (ap (λ (k : Closing). k.written)
     (sym is) ∙ x.2) in
-    let bytes : take moved f ≡ job.passed = rw m at x.0.collected in
-    rw bytes (ap command_end (is ∙ plain))
+    rw (rw m at x.0.collected) (ap command_end (is ∙ plain))
 command_end_is job (Search w so_far) moved made lt x m =
     let t = track_of (slot_in job) in
     let area = area_bytes t job.opened job.registers in
@@ -109,10 +106,9 @@ written_there : (job : AtWork) (w : Window) (u : WrittenArea) → number_in job 
     ≡ job.cache.slots)
 written_there job w u lt x =
     let k = x.filled.closes [] (omega arith) in
-    let same : job.passed ++ [] ≡ job.passed = append-nil job.passed in
-    let slot : slot_of (geometry_in job).track_size k.track ≡ slot_in job = k.slot_is ∙ rw same (sym x.slot_is) in (
+    let slot : slot_of (geometry_in job).track_size k.track ≡ slot_in job = k.slot_is ∙ rw (append-nil job.passed) (sym x.slot_is) in (
       k.track,
-      rw (get_or-set_same job.cache.slots (number_in job) job.before [] lt) (rw same at k.written),
+      rw (get_or-set_same job.cache.slots (number_in job) job.before [] lt) (rw (append-nil job.passed) at k.written),
       rw (slot, set-set job.cache.slots (number_in job) job.before (slot_in job)) (set-get_or job.cache.slots (number_in job) []),
     )
 
@@ -124,12 +120,8 @@ pub staying : (job : AtWork) (m : Mark) (p : Transfer) (u : CommandEnd)
       mark = m;
     }) (closing_in job (seen_track job p))
     ≡ record {
-      state = record {
-        volume = record { geometry = geometry_in job; slots = job.cache.slots };
-        registers = u.registers;
-        mark =
-            mark_left p m;
-      };
+      state =
+          record { volume = record { geometry = geometry_in job; slots = job.cache.slots }; registers = u.registers; mark = mark_left p m };
       unit = u.ending.unit;
       motion = u.ending.motion;
     }
@@ -163,6 +155,9 @@ module _ (c : CacheState) (g : Geometry) (n : ℕ) where
   over_hand : (u : CommandEnd) → u.moves_off ≡ false → AtHand c n → Lands c g n u
   over_hand u off h = record { stays = λ _. any_credit c n u.registers.credit h; moves = λ e. absurd cc }
 
+  gone : (u : CommandEnd) → u.moves_off ≡ true → IsAtTrack g u.registers → u.registers.credit ≡ None → Lands c g n u
+  gone u off at none = record { stays = λ e. absurd cc; moves = λ _. (at, none) }
+
   abbrev LandsBy : Closing → Type 0
   LandsBy k = Lands c g n (command_end k)
 
@@ -180,18 +175,12 @@ module _ (c : CacheState) (g : Geometry) (n : ℕ) where
       whole r b 6 _ none (cond_both (number_of (take 2 b) == 0 && nat_lt cylinder g.cylinders && nat_lt head (heads_of g.model)) _ _ LandsBy
       (λ e. (let t = and_parts (number_of (take 2 b) == 0 && nat_lt cylinder g.cylinders) (nat_lt head (heads_of g.model)) e in
       let within = ltb-true cylinder g.cylinders (and_parts (number_of (take 2 b) == 0) (nat_lt cylinder g.cylinders) t.0).1 in
-      record { stays = λ x. absurd cc; moves = λ x. (record { cylinder = within; head = ltb-true head (heads_of g.model) t.1 }, none) }))
+      gone _ refl (record { cylinder = within; head = ltb-true head (heads_of g.model) t.1 }) none))
       (λ _. plain _ refl none))
   field r o action.SeekHead b none at f =
       let head = number_of (slice_range b 4 6) in
       whole r b 6 _ none (cond_both (nat_lt head (heads_of g.model)) _ _ LandsBy
-      (λ e. record {
-        stays = λ x. absurd cc;
-        moves = λ x. (
-          record { cylinder = at.cylinder; head = ltb-true head (heads_of g.model) e },
-          none,
-        );
-      })
+      (λ e. gone _ refl (record { cylinder = at.cylinder; head = ltb-true head (heads_of g.model) e }) none)
       (λ _. plain _ refl none))
   field r o action.SetFileMask [] none at f = plain _ refl none
   field r o action.SetFileMask (x ∷ b) none at f = plain _ refl none
@@ -233,13 +222,7 @@ ended : (now : DriveState) (after : Parts) (ending : DriveEnding) → Stands aft
     → Ended now after ending
 ended now after ending stands state says calls = record {
   stands = stands;
-  ends = record {
-    state = state;
-    ends = says;
-    calls =
-        calls;
-    reported = end_reports now (state_of after) ending state says calls;
-  };
+  ends = record { state = state; ends = says; calls = calls; reported = end_reports now (state_of after) ending state says calls };
 }
 
 module _ {d : Parts} {now : DriveState} {u : CommandEnd} (e : Closes d now u) where
@@ -282,14 +265,9 @@ module _ {d : Parts} {now : DriveState} {u : CommandEnd} (e : Closes d now u) wh
   stays_ends off =
       let after : Parts = parts_of (record d.job { registers = u.registers }) (mark_left d.job.progress.place d.mark) Idle in
       let none : fault_met (state_of d) (state_of after) ≡ None = fault_none (state_of d) (state_of after) refl in
-      let stays : closing_seen.moves_off ≡ false = off_so ∙ off in
-      let closed : closed_of None (state_of d) (state_of d).work ≡ record {
-        state = (state_of after).state;
-        unit = u.ending.unit;
-        motion =
-            u.ending.motion;
-      } =
-      rw (e.drive.passes, stays) (staying (at_work d.job) d.mark d.job.progress.place u e.drive.made (number_there d e.drive.stands)
+      let closed : closed_of None (state_of d) (state_of d).work ≡
+      record { state = (state_of after).state; unit = u.ending.unit; motion = u.ending.motion } =
+      rw (e.drive.passes, off_so ∙ off) (staying (at_work d.job) d.mark d.job.progress.place u e.drive.made (number_there d e.drive.stands)
       goes.placed closes_so) in
       let k = arm_stays off in
       let same : track_under d.job.cache.image.geometry u.registers ≡ own_track d.job = rw (k.cylinder, k.head) refl in
@@ -329,12 +307,8 @@ module _ {d : Parts} {now : DriveState} {u : CommandEnd} (e : Closes d now u) wh
       let at = lands_so.moves moves in
       let after : Parts = parts_of (record d.job { cache = after_save c; registers = u.registers }) Saved Idle in
       let none : fault_met (state_of d) (state_of after) ≡ None = fault_none (state_of d) (state_of after) (failures_saved c) in
-      let left : State = record {
-        volume = record { geometry = c.image.geometry; slots = c.slots };
-        registers = u.registers;
-        mark =
-            Saved;
-      } in
+      let left : State =
+      record { volume = record { geometry = c.image.geometry; slots = c.slots }; registers = u.registers; mark = Saved } in
       let closed : closed_of None (state_of d) (state_of d).work ≡ record { state = left; unit = u.ending.unit; motion = u.ending.motion } =
       rw (e.drive.passes, k.0, ← closes_so, k.2) refl in
       rw (← e.drive.state, l.0, l.1)
@@ -350,12 +324,8 @@ module _ {d : Parts} {now : DriveState} {u : CommandEnd} (e : Closes d now u) wh
       let after : Parts = parts_of (record d.job { cache = after_failed_save c l.left; registers = lost_registers d.job.registers }) Lost
       Idle in
       let s = save_lost d d.job new m (state_of after) e.drive.stands k.1 refl l refl in
-      let closed : closed_of (Some (SaveFails l.left)) (state_of d) (state_of d).work ≡ record {
-        state = (state_of after).state;
-        unit =
-            record { 0 = 0x0E };
-        motion = false;
-      } =
+      let closed : closed_of (Some (SaveFails l.left)) (state_of d) (state_of d).work ≡
+      record { state = (state_of after).state; unit = record { 0 = 0x0E }; motion = false } =
       rw (e.drive.passes, k.0, k.2, s.written, s.held, s.whole) refl in
       rw (← e.drive.state, l.job, l.mark_is)
       (ended (state_of d) after failed_ending

@@ -27,8 +27,7 @@ use Rattle.ckd_slot.proofs.Updates.{form_of, padded_on, same_records}
 use Rattle.ckd_drive.proofs.Standing.{slot_is, number_below}
 
 pub there : (half : HalfDone) → Works half → own_track half < length half.cache.slots
-there half x =
-    rw x.volume.count (number_below half.cache.image.geometry half.registers x.arm)
+there half x = rw x.volume.count (number_below half.cache.image.geometry half.registers x.arm)
 
 pub new_slot_at : (c : CacheState) (n : ℕ) (new : List ℕ) → c.held ≡ Some n → n < length c.slots → slot_at (with_held c new).slots n ≡ new
 new_slot_at c n new held lt = rw held (get_or-set_same c.slots n new [] lt)
@@ -46,7 +45,6 @@ pub written_absorbs : (half : HalfDone) (before' : List ℕ) (more new : List �
     → Absorbs half more (with_held half.cache new) before' (Filled w u)
 written_absorbs half before' more new w u x held size room filled seen =
     let c = half.cache in
-    let goes = x.goes in
     record {
       works = record {
         volume = record {
@@ -58,11 +56,10 @@ written_absorbs half before' more new w u x held size room filled seen =
         arm = x.arm;
         anchored = λ _. held;
         goes = record {
-          moved = rw (← goes.moved) (length-append half.passed more);
+          moved = rw (← x.goes.moved) (length-append half.passed more);
           left = room.left;
           placed = filled;
-          no_credit =
-              goes.no_credit;
+          no_credit = x.goes.no_credit;
         };
       };
       image = refl;
@@ -134,7 +131,6 @@ form_filled job now w fill area lens come closes =
     let off = update_offset fill.extent t0 fill.number in
     let room = room_of fill in
     let s0 = slot_of size t0 in
-    let long = length-slot_of size t0 area.fits.room in
     let zeros = form_of size t0 fill.extent fill.part fill.number (replicate room 0) area.update area.fits area.there
     (length-replicate {A = ℕ} room 0) in
     let within : off + room ≤ size = omega (arith, zeros.within, length-replicate {A = ℕ} room 0) in
@@ -146,20 +142,14 @@ form_filled job now w fill area lens come closes =
       begins = come.begins;
       lead_small = come.lead_small;
       within = omega (arith, come.start, come.rest, within);
-      start = omega (arith, come.start, length-take off s0, long, within);
+      start = omega (arith, come.start, length-take off s0, length-slot_of size t0 area.fits.room, within);
       rest = come.rest;
       closes = λ more le.
           (let c = closes more le in
           let b = job.passed ++ more in
           let body = padded (drop fill.lead b) room in
-          let body_long : length body ≡ room = length-padded (drop fill.lead b) room (omega (
-            arith,
-            length-drop fill.lead b,
-            length-append job.passed more,
-            le,
-            come.rest,
-            come.begins,
-          )) in
+          let body_long : length body ≡ room = length-padded (drop fill.lead b) room
+          (omega (arith, length-drop fill.lead b, length-append job.passed more, le, come.rest, come.begins)) in
           let form = form_of size t0 fill.extent fill.part fill.number body area.update area.fits area.there body_long in
           record {
             track = filled_with fill body;
@@ -191,14 +181,8 @@ filled_on job new now' more w u le lens f =
       within = omega (arith, f.within, le);
       start = omega (arith, f.start, f.begins, far);
       rest = omega (arith, f.rest, f.begins, far, le);
-      closes = λ m lm.
-          (let c = f.closes (more ++ m) (omega (arith, length-append more m, le, lm)) in
-          let same : passed ++ (more ++ m) ≡ (passed ++ more) ++ m = sym (append_assoc passed more m) in
-          rw (same, ← lens) at c);
-      wants = λ m lm.
-          (let c = f.wants (more ++ m) (omega (arith, length-append more m, le, lm)) in
-          let same : passed ++ (more ++ m) ≡ (passed ++ more) ++ m = sym (append_assoc passed more m) in
-          rw same at c);
+      closes = λ m lm. rw (← append_assoc passed more m, ← lens) at (f.closes (more ++ m) (omega (arith, length-append more m, le, lm)));
+      wants = λ m lm. rw (← append_assoc passed more m) at (f.wants (more ++ m) (omega (arith, length-append more m, le, lm)));
     }
 
 -- the same of lists and numbers alone, so that tactics read no drive
@@ -223,37 +207,29 @@ filled_absorbs half more w what may at =
     let passed = half.passed in
     let g = c.image.geometry in
     let n : ℕ = track_under g half.registers in
-    let goes = may.works.goes in
-    let left : half.progress.left ≤ w.len = rw at at goes.left in
+    let left : half.progress.left ≤ w.len = rw at at may.works.goes.left in
     let le : length more ≤ w.len = omega (arith, left, may.room) in
-    let h : HasFilled (at_work half) w what = rw at at goes.placed in
+    let h : HasFilled (at_work half) w what = rw at at may.works.goes.placed in
     let f = h.filled in
     let old = slot_at c.slots n in
     let new = overwritten old w.start more in
-    let lt = there half may.works in
     let k = f.closes more le in
     let far = length-append passed more in
     let lead_len : length (drop f.lead passed) ≡ length passed - f.lead = length-drop f.lead passed in
-    let start : length f.head + length (drop f.lead passed) ≡ w.start = omega (arith, f.start, lead_len) in
-    let made : new ≡ f.head ++ (padded (drop f.lead passed ++ more) f.room ++ f.tail) =
-    next_made old f.head f.tail (drop f.lead passed) more f.room w.start h.slot_is start (omega (arith, lead_len, f.rest, le, f.begins)) in
     let made' : new ≡ f.head ++ (padded (drop f.lead (passed ++ more)) f.room ++ f.tail) =
-    rw (drop-append-le f.lead passed more f.begins) made in
+    rw (drop-append-le f.lead passed more f.begins) (next_made old f.head f.tail (drop f.lead passed) more f.room w.start h.slot_is
+    (omega (arith, f.start, lead_len)) (omega (arith, lead_len, f.rest, le, f.begins))) in
     let slot : new ≡ slot_of g.track_size k.track = made' ∙ sym k.slot_is in
     let read = reads_new g.track_size k.track new k.fits slot in
-    let lens : lengths_on (track_in new) ≡ lengths_on (track_in old) = ap lengths_on read.1 ∙ k.lengths_stay in
-    let at_new = new_slot_at c n new h.at_hand.held lt in
+    let at_new = new_slot_at c n new h.at_hand.held (there half may.works) in
     let w' : Window = record { start = w.start + length more; len = w.len - length more } in
-    let now : List ℕ = slot_at (with_held c new).slots n in
-    let on = filled_on (at_work half) new now more w (closes_by half.registers half.opened what) le
-    (ap (λ (y : List ℕ). lengths_on (track_in y)) at_new ∙ lens) f in
-    let wants = f.wants more le in
     let has : HasFilled (at_work (with_taken half more (with_held c new) half.before (Filled w' what))) w' what = record {
       at_hand = record { held = h.at_hand.held; readable = rw at_new read.0 };
       size = h.size;
-      filled = on;
+      filled = filled_on (at_work half) new (slot_at (with_held c new).slots n) more w (closes_by half.registers half.opened what) le
+          (ap (λ (y : List ℕ). lengths_on (track_in y)) at_new ∙ (ap lengths_on read.1 ∙ k.lengths_stay)) f;
       slot_is = at_new ∙ made';
-      found = record { again = h.found.again; len = omega (arith, wants, f.rest, f.begins, far, le) };
+      found = record { again = h.found.again; len = omega (arith, f.wants more le, f.rest, f.begins, far, le) };
       takes = h.takes;
       some = omega (arith, h.some, far);
     } in

@@ -19,11 +19,11 @@ use Rattle.ckd_drive.specs.declared.transfer.Transfer.TheVariants.{Field, Due, F
 use Rattle.ckd_position.specs.Contents.{Sighted, new_record, formatted, kept, padded, replaced, with_record_changed}
 use Rattle.ckd_command.specs.Commands.{Closing, command_end, own_home_address, new_record_fits, format_ends}
 use Rattle.ckd_slot.specs.Buffer.{HasFormatted, CanMake, IsPlaceOf, fits_track, lengths_on, made_on}
-use Rattle.ckd_slot.specs.Cache.{CacheState, with_held, slot_held, after_format}
+use Rattle.ckd_slot.specs.Cache.{with_held, slot_held, after_format}
 use Rattle.ckd_drive.specs.declared.transfer.WrittenArea.TheVariants as written
-use Rattle.ckd_drive.specs.Invariant.{HalfDone, HasDue, HasFilled, IsFound, at_work, own_slot, own_track, action_now, IsFilled, AtHand}
+use Rattle.ckd_drive.specs.Invariant.{HalfDone, HasDue, at_work, own_slot, own_track, action_now, IsFilled, AtHand}
 use Rattle.ckd_drive.specs.Invariant.{slot_at, AtWork, geometry_in, action_in}
-use Rattle.ckd_drive.specs.Passing.{Works, Absorbs, with_taken, whole_of}
+use Rattle.ckd_drive.specs.Passing.{Works, Absorbs, whole_of}
 use Rattle.ckd_slot.proofs.Writes.{update_length, update_place, made_formatted, kept_le, length-padded, padded_whole}
 use Rattle.ckd_track.proofs.ChargeLaws.{no_end_mark}
 use Rattle.ckd_drive.proofs.Fills.{there, new_slot_at, reads_new, Filling, room_of, ClosesFilled, form_filled, filled_absorbs}
@@ -41,14 +41,13 @@ parts : (b body : List ℕ) → length b ≡ 8 → length body ≡ body_length b
 parts b body eight long =
     let s = same_count b body (omega (arith, eight)) in
     let k = key_length b in
-    let id : take 5 (b ++ body) ≡ take 5 b = take-append-le 5 b body (omega (arith, eight)) in
     let behind : drop 8 (b ++ body) ≡ body = drop_at b body 8 eight in
     let key : slice_range (b ++ body) 8 (8 + key_length (b ++ body)) ≡ take k body =
     rw (s.key, behind, (let e : 8 + k - 8 ≡ k = omega arith in e)) refl in
     let bytes : slice_range (b ++ body) (8 + key_length (b ++ body)) (8 + body_length (b ++ body)) ≡ drop k body =
     (let far : drop (8 + k) (b ++ body) ≡ drop k body = sym (drop-drop k 8 (b ++ body)) ∙ ap (drop k) behind in
     rw (s.key, s.bytes, far) (take_all (8 + body_length b - (8 + k)) (drop k body) (omega (arith, length-drop k body, long)))) in
-    rw (id, key, bytes) refl
+    rw (take-append-le 5 b body (omega (arith, eight)), key, bytes) refl
 
 -- the zeros behind the bytes that came
 padded_behind : (b m : List ℕ) (n : ℕ) → length b ≡ 8 → padded (b ++ m) (8 + n) ≡ b ++ padded m n
@@ -90,12 +89,11 @@ pub format_written : (t : Sighted) (after : Option Area) (b m : List ℕ) (part 
 format_written t after b m part i eight e le =
     let n = body_length b in
     let k = key_length b in
-    let sum : length (take k (padded [] n)) + length (drop k (padded [] n)) ≡ n = length-record b [] (omega arith) in
     let key : length (take k (padded [] n)) ≡ k = omega (arith, length-take k (padded [] n), length-padded [] n (omega arith)) in
     rw (
       drop_at b m 8 eight,
       record_last t after b i eight e,
-      sum,
+      (length-record b [] (omega arith)),
       key,
       padded_whole (padded m n) n (length-padded m n le),
       new_with b m eight le,
@@ -107,8 +105,7 @@ format_written t after b m part i eight e le =
 abbrev format_filling : AtWork → RecordPart → ℕ → Filling
 format_filling job part i = record {
   closes = command_end (format_ends job.registers i);
-  track =
-      formatted (track_of job.before) job.opened.area job.passed;
+  track = formatted (track_of job.before) job.opened.area job.passed;
   extent = extent.KeyAndData;
   part = part;
   number = i;
@@ -186,10 +183,9 @@ format_absorbs {half} {more} {f} {field} {count} i w k has =
     let new = slot_of g.track_size (formatted (track_of (slot_held c)) a count) in
     let is_new : HasFormatted g.model g.track_size a b t i w = rw (held, k.whole) at has in
     let made : new ≡ slot_of g.track_size t0 = rw (held, k.whole) refl in
-    let read = reads_new g.track_size t0 new is_new.spelled made in
     let now : List ℕ = slot_at (with_held c new).slots n in
     let lens : lengths_on (track_in now) ≡ lengths_on t0 = ap (λ (y : List ℕ). lengths_on (track_in y)) (new_slot_at c n new k.at_hand.held
-    (there half may.works)) ∙ ap lengths_on read.1 in
+    (there half may.works)) ∙ ap lengths_on (reads_new g.track_size t0 new is_new.spelled made).1 in
     let last : i < length t0.records = omega (arith, is_new.is_last, length-append (kept t a) (new_record b ∷ [])) in
     let place = update_place extent.KeyAndData t0 part.Data i w tt last is_new.place in
     let job = new_work half more new w (written.Record i) in
@@ -202,18 +198,16 @@ format_absorbs {half} {more} {f} {field} {count} i w k has =
     }) (λ m le. format_filled job m part.Data i k.is k.eight is_new.fits is_new.is_last (omega (arith, le, place.1))) in
     let whole : with_record_changed
     (replaced extent.KeyAndData (padded (drop 8 (b ++ [])) (update_length extent.KeyAndData (record_in t0 i)))) (Of part.Data i) t0
-    ≡ t0 =
-    format_written t a b [] part.Data i k.eight is_new.is_last (omega arith) ∙ ap (λ (y : List ℕ). formatted t a y) (append-nil b) in
+    ≡ t0 = format_written t a b [] part.Data i k.eight is_new.is_last (omega arith) ∙ ap (λ (y : List ℕ). formatted t a y) (append-nil b) in
     newly_absorbs half more new w (written.Record i) (omega arith) may.works (record {
       held = k.at_hand.held;
       plain = rw k.collects.placed refl;
       again = goes.again;
       takes = may.taking;
       some = omega (arith, k.eight, goes.long);
-    }) (record {
-      left = (let left = rw k.is at goes.left in omega (arith, left, k.eight));
-      small = omega (arith, k.eight, goes.long);
-    }) filled (made ∙ ap (slot_of g.track_size) (sym whole))
+    })
+    (record { left = (let left = rw k.is at goes.left in omega (arith, left, k.eight)); small = omega (arith, k.eight, goes.long) })
+    filled (made ∙ ap (slot_of g.track_size) (sym whole))
 
 -- a record that fits is due, and the track stays
 pub due_absorbs : {half : HalfDone} {more f field count : List ℕ} (i : ℕ) (w : Window) → FormatGoes half more f field count
@@ -222,12 +216,8 @@ due_absorbs {half} {more} {f} {field} {count} i w k has =
     let a = format_absorbs i w k has in
     let works = k.collects.may.works in
     let at = k.collects.placed in
-    let job = at_work (with_taken half more (after_format half.cache half.opened.area count) (slot_held half.cache)
-    (Filled w (written.Record i))) in
-    let h : HasFilled job w (written.Record i) = a.works.goes.placed in
-    let F : List ℕ → Type 0 = λ y. IsFound job (track_of y) (Filled w (written.Record i)) in
-    let found : IsFound job (track_of (own_slot half)) (Filled w (written.Record i)) =
-    subst F (slot_is half.cache (own_track half) (slot_held half.cache) k.at_hand.held refl) h.found in
+    let h = a.works.goes.placed in
+    let found = rw (slot_is half.cache (own_track half) (slot_held half.cache) k.at_hand.held refl) at h.found in
     record {
       works = record {
         volume = works.volume;
@@ -275,12 +265,8 @@ made_absorbs half more w number count x at le =
     let made : List ℕ = slot_of size (made_on t number count) in
     let c' = after_format c area count in
     let left : half.progress.left ≤ w.len = rw at at x.goes.left in
-    let half' : HalfDone = record half {
-      cache = c';
-      before = slot_held c;
-      progress =
-          record half.progress { place = Filled w (written.Record number) };
-    } in
+    let half' : HalfDone =
+    record half { cache = c'; before = slot_held c; progress = record half.progress { place = Filled w (written.Record number) } } in
     let works' : Works half' = record {
       volume = h.volume;
       arm = x.arm;
@@ -291,12 +277,9 @@ made_absorbs half more w number count x at le =
     let new_at : slot_held c' ≡ made =
     slot_is c' n (slot_held c') h.at_hand.held refl ∙ new_slot_at c n (slot_of size (formatted t area count)) h.at_hand.held (there half x)
     ∙ ap (slot_of size) same_track in
-    let w' : Window = record { start = w.start + length more; len = w.len - length more } in
     let same : with_held c' (overwritten made w.start more) ≡ with_held c (overwritten made w.start more) =
-    ap (λ (s : List (List ℕ)). let y : CacheState = record c { slots = s; changed = true } in
-    y) (set-set c.slots (unwrap_or c.held 0) (slot_of size (formatted t area count)) (overwritten made w.start more)) in
-    let a : Absorbs half' more (with_held c (overwritten made w.start more)) (slot_held c) (Filled w' (written.Record number)) =
-    rw (new_at, same) at k.absorbs in
+    rw (set-set c.slots (unwrap_or c.held 0) (slot_of size (formatted t area count)) (overwritten made w.start more)) refl in
+    let a = rw (new_at, same) at k.absorbs in
     let short : length more ≤ w.len = omega (arith, le, left) in
     let P : Track → Type 0 = λ y. IsPlaceOf extent.KeyAndData y (Of part.Data number) w in
     record {

@@ -8,19 +8,21 @@ use Rattle.ckd_command.specs.declared.tables.Aim.TheVariants.{NoArea, Credited, 
 use Rattle.ckd_command.specs.declared.tables.Action.{Action}
 use Rattle.ckd_command.specs.declared.tables.Action.TheVariants as action
 use Rattle.ckd_command.specs.declared.begin.Opened.{Opened}
-use Rattle.ckd_command.specs.Answers.{Sight, Found, IndexPassed, NextHead, Missed, moved_to}
+use Rattle.ckd_command.specs.Answers.{Sight, Found, IndexPassed, NextHead, Missed, moved_to, CommandEnd}
 use Rattle.ckd_drive.specs.declared.transfer.Transfer.{Transfer}
 use Rattle.ckd_drive.specs.declared.transfer.Transfer.TheVariants.{Sense, Field, Read, Search, Fill, Due, Filled}
 use Rattle.ckd_command.specs.Tables.{action_of, aim, needs_readable}
 use Rattle.ckd_position.specs.Contents.{is_readable, Sighted}
-use Rattle.ckd_command.specs.Commands.{Closing, sight, command_end, IsAtTrack, length_after, with_cause, sight_of}
+use Rattle.ckd_command.specs.Commands.{Closing, sight, closing, command_end, IsAtTrack, length_after, length_for, bytes_for, with_cause}
+use Rattle.ckd_command.specs.Commands.{sight_of}
 use Rattle.ckd_drive.proofs.Takes.{field_unwritten, field_wants, no_byte}
 use Rattle.ckd_command.proofs.Closings.{area_by, closing_by, sense_closes, sense_length}
 use Rattle.ckd_command.proofs.Lengths.{length_by}
 use Rattle.ckd_slot.specs.Cache.{CacheState, holds, loaded, after_hold, after_failed_hold, after_save, after_failed_save}
 use Rattle.ckd_drive.specs.Invariant.{IsFirstPlace, IsPlaced, IsField, ReadsWhole, FieldAtHand, AtHand, slot_at, AtWork, geometry_in}
-use Rattle.ckd_drive.specs.Invariant.{number_in, slot_in, at_work, Stands, StaysAt, CreditAtHand, remaining, state_of, is_filled_by}
-use Rattle.ckd_drive.specs.Invariant.{HalfDone, Parts, parts_of, own_track, own_slot, AreaIsThere, SightKeeps, StageIs, is_filled}
+use Rattle.ckd_drive.specs.Invariant.{action_in, area_in, IsFound, ClosesUnwritten, number_in, slot_in, at_work, Stands, StaysAt}
+use Rattle.ckd_drive.specs.Invariant.{CreditAtHand, remaining, state_of, is_filled_by, HalfDone, Parts, parts_of, own_track, own_slot}
+use Rattle.ckd_drive.specs.Invariant.{AreaIsThere, SightKeeps, StageIs, is_filled}
 use Rattle.ckd_drive.specs.Passing.{first_progress}
 use Rattle.ckd_track.specs.declared.geometries.Geometry.{Geometry}
 use Rattle.ckd_command.specs.declared.registers.Registers.{Registers}
@@ -28,7 +30,7 @@ use Rattle.ckd_drive.specs.declared.transfer.OpenTransfer.{OpenTransfer}
 use Rattle.ckd_drive.specs.declared.answers.DriveStage.{DriveStage}
 use Rattle.ckd_drive.specs.declared.answers.DriveStage.TheVariants.{Looking, Passing, Failed}
 use Rattle.ckd_drive.specs.Work.{fault_met, with_image, after_look, DriveState, after_sight, look_loads, look_saves}
-use Rattle.ckd_command.specs.Drive.{is_written_by, AfterLook, Ready, LoadFails, look as look_by, Fault}
+use Rattle.ckd_command.specs.Drive.{is_written_by, AfterLook, Ready, look as look_by, Fault}
 use Rattle.ckd_drive.proofs.Calls.{fault_none, fault_loading, lost_registers, save_lost, changed_is, no_more, calls_none}
 use Rattle.ckd_drive.proofs.Calls.{calls_of_failed_save, calls_of_failed_hold, calls_behind_load, comes_saved}
 use Rattle.ckd_drive.specs.Calls.{Comes, Looks, Leaves, Loses}
@@ -49,7 +51,8 @@ use Rattle.ckd_position.specs.Areas.{IsOnTrack, IfFound}
 use Rattle.ckd_position.specs.declared.extents.AreaBytes.{AreaBytes}
 use Rattle.ckd_position.specs.declared.extents.AreaBytes.TheVariants as extent
 use Rattle.ckd_command.proofs.Sights.{passing, sight_by, look_again}
-use Rattle.ckd_slot.specs.Buffer.{HasBytes}
+use Rattle.ckd_slot.specs.Buffer.{HasBytes, Lies}
+use Rattle.ckd_slot.specs.declared.windows.Window.{Window}
 
 pub on_track : (e : AreaBytes) (t : Sighted) (a : Area) → IsOnTrack (track_or_none t) a → HasBytes e t a
 on_track extent.Count t (Of part i) on = on
@@ -68,13 +71,8 @@ next_in g r n at is e = record { cylinder = at.cylinder; head = grind (arith, na
 -- where the arm is after a look
 pub sight_keeps : (g : Geometry) (t : Sighted) (o : Opened) (r : Registers) → IsAtTrack g r → SightKeeps g r (sight g t o r)
 sight_keeps g t o r at =
-    sight_by (SightKeeps g r) g t o r tt (λ a. tt) (record { cylinder = refl; head = refl; credit = refl }) (record {
-      cylinder =
-          refl;
-      head = refl;
-      credit = refl;
-    })
-    (λ e. (next_in g r (heads_of g.model) at refl e, refl)) (λ c h. record { cylinder = refl; head = refl; credit = refl })
+    sight_by (SightKeeps g r) g t o r tt (λ a. tt) (search rules) (search rules) (λ e. (next_in g r (heads_of g.model) at refl e, refl))
+    (λ c h. search rules)
 
 -- a track on which an area was found reads whole, where the command asks it
 whole_by : (act : Action) (t : Sighted) → (needs_readable act ≡ true → is_readable t ≡ true) → ReadsWhole act t
@@ -122,130 +120,72 @@ pub record Hand (c : CacheState) (n : ℕ) (o : Opened) : Type 0 where
 abbrev pub HandIfAimed : CacheState → ℕ → Opened → Type 0
 HandIfAimed c n o = (aim o.command ≡ NoArea → ⊥) → Hand c n o
 
-hand_for : (c : CacheState) (n : ℕ) (o : Opened) (a : Action) → action_of o.command ≡ a → needs_area a ≡ true → HandIfAimed c n o
-    → Hand c n o
-hand_for c n o a is w h = h (aims o.command (rw is w))
+-- a command whose area is found, and what it wants is at hand
+module _ (job : AtWork) (h : HandIfAimed job.cache (number_in job) job.opened)
+    (again : sight (geometry_in job) (track_of (slot_in job)) job.opened job.registers ≡ Found job.opened) where
+  abbrev track : Sighted
+  track = track_of (slot_in job)
 
-whole_at : (c : CacheState) (n : ℕ) (o : Opened) (a : Action) → action_of o.command ≡ a → (ReadsWhole a (track_of (slot_at c.slots n))
-    → is_readable (track_of (slot_at c.slots n)) ≡ true) → Hand c n o → AtHand c n
-whole_at c n o a is f h = record { held = h.held; readable = f (rw is at h.whole) }
+  hand : (a : Action) → action_in job ≡ a → needs_area a ≡ true → Hand job.cache (number_in job) job.opened
+  hand a is w = h (aims job.opened.command (rw is w))
 
-field_at_hand : (a : Action) (c : CacheState) (n : ℕ) (o : Opened) → action_of o.command ≡ a → IsField a → HandIfAimed c n o
-    → FieldAtHand a c n
-field_at_hand action.WriteHomeAddress c n o is f h = (hand_for c n o action.WriteHomeAddress is refl h).held
-field_at_hand action.Format c n o is f h = whole_at c n o action.Format is (λ x. x) (hand_for c n o action.Format is refl h)
-field_at_hand _ c n o is f h = search rules
+  whole : (a : Action) → action_in job ≡ a → needs_area a ≡ true → (ReadsWhole a track → is_readable track ≡ true)
+      → AtHand job.cache (number_in job)
+  whole a is w f = record { held = (hand a is w).held; readable = f (rw is at (hand a is w).whole) }
 
-pub first_placed : (job : AtWork) (p : Transfer)
-    → IsFirstPlace (slot_in job) job.opened job.registers p → HandIfAimed job.cache (number_in job) job.opened
-    → sight (geometry_in job) (track_of (slot_in job)) job.opened job.registers ≡ Found job.opened
-    → IsPlaced (record job { passed = [] }) p
-first_placed job (Sense b) f h again =
-    let t = track_of (slot_in job) in
-    let is = sense_closes (geometry_in job) t job.opened job.registers [] f.0 in (
-      record { is_sense = f.0; bytes_are = f.1; room = omega arith },
-      record {
-        again = again;
-        len =
-            sense_length (geometry_in job) t job.opened job.registers [] f.0;
-      },
-      record {
-        so = ap command_end is;
-        unwritten =
-            ap (λ (k : Closing). k.written) is;
-      },
-    )
-first_placed job (Field x) f h again =
-    let t = track_of (slot_in job) in
-    let a = action_of job.opened.command in (
-      record {
-        is_field = f;
-        room = omega arith;
-        collected = refl;
-        at_hand =
-            field_at_hand a job.cache (number_in job) job.opened refl f h;
-      },
-      record {
-        again = again;
-        len = (let wants = length_by a (geometry_in job) t job.opened job.registers [] refl
-            ∙ field_wants a (geometry_in job) t job.opened job.registers [] f (omega arith)
-            (no_byte a (geometry_in job) t job.opened job.registers) in omega (arith, wants));
-      },
-      ap (λ (k : Closing). k.written) (closing_by a (geometry_in job) t job.opened job.registers [] refl)
-          ∙ field_unwritten a (geometry_in job) t job.opened job.registers [] f (omega arith)
-          (no_byte a (geometry_in job) t job.opened job.registers),
-    )
-first_placed job (Read w u) f h again =
-    let t = track_of (slot_in job) in
-    let area = area_by action.Read t job.opened job.registers f.0 in
-    let is = closing_by action.Read (geometry_in job) t job.opened job.registers [] f.0 in (
-      record {
-        is_read = f.0;
-        held = (hand_for job.cache (number_in job) job.opened action.Read f.0 refl h).held;
-        lies = rw area f.1;
-        room =
-            omega arith;
-        begins = omega arith;
-      },
-      record {
-        again = again;
-        len = omega (
-          arith,
-          length_by action.Read (geometry_in job) t job.opened job.registers [] f.0,
-          ap length area,
-          f.1.size,
-        );
-      },
-      record { so = ap command_end is ∙ sym f.2; unwritten = ap (λ (k : Closing). k.written) is },
-    )
-first_placed job (Search w so_far) f h again =
-    let t = track_of (slot_in job) in
-    let area = area_by action.Search t job.opened job.registers f.0 in (
-      record {
-        is_search = f.0;
-        at_hand = whole_at job.cache (number_in job) job.opened action.Search f.0 (λ x. x)
-            (hand_for job.cache (number_in job) job.opened action.Search f.0 refl h);
-        lies = rw area f.1;
-        room = omega arith;
-        begins =
-            omega arith;
-        compared = f.2;
-      },
-      record {
-        again = again;
-        len = omega (
-          arith,
-          length_by action.Search (geometry_in job) t job.opened job.registers [] f.0,
-          ap length area,
-          f.1.size,
-        );
-      },
-    )
-first_placed job (Fill w u) f h again =
-    let t = track_of (slot_in job) in
-    let area = area_by action.Update t job.opened job.registers f.0 in
-    let is = closing_by action.Update (geometry_in job) t job.opened job.registers [] f.0 in (
-      record {
-        is_update = f.0;
-        at_hand = whole_at job.cache (number_in job) job.opened action.Update f.0 (λ x. x)
-            (hand_for job.cache (number_in job) job.opened action.Update f.0 refl h);
-        lies = rw area f.1;
-        place = f.2;
-        none = refl;
-      },
-      record {
-        again = again;
-        len = omega (
-          arith,
-          length_by action.Update (geometry_in job) t job.opened job.registers [] f.0,
-          ap length area,
-          f.1.size,
-        );
-      },
-      record { so = ap command_end is ∙ sym f.3; unwritten = ap (λ (k : Closing). k.written) is },
-    )
-first_placed job (Due w number count) f h again = absurd f
-first_placed job (Filled w u) f h again = absurd f
+  field_at_hand : (a : Action) → action_in job ≡ a → IsField a → FieldAtHand a job.cache (number_in job)
+  field_at_hand action.WriteHomeAddress is f = (hand action.WriteHomeAddress is refl).held
+  field_at_hand action.Format is f = whole action.Format is refl (λ x. x)
+  field_at_hand _ is f = search rules
+
+  -- its bytes stand in this window
+  found : (a : Action) (w : Window) (p : Transfer) → action_in job ≡ a
+      → length_for a (geometry_in job) track job.opened job.registers [] ≡ length (area_in job) → remaining (action_in job) p 0 ≡ w.len
+      → Lies (slot_in job) w (bytes_for a track job.opened job.registers)
+      → Lies (slot_in job) w (area_in job) × IsFound (record job { passed = [] }) track p
+  found a w p is long rest lies = (let area = area_by a track job.opened job.registers is in let size = lies.size in (
+    rw area lies,
+    record {
+      again = again;
+      len = omega (arith, length_by a (geometry_in job) track job.opened job.registers [] is, long, rest, ap length area, size);
+    },
+  ))
+
+  closes : (u : CommandEnd) (k : Closing) → closing (geometry_in job) track job.opened job.registers [] ≡ k → command_end k ≡ u
+      → k.written ≡ None → ClosesUnwritten (record job { passed = [] }) track u
+  closes u k is so none = record { so = ap command_end is ∙ so; unwritten = ap (λ (c : Closing). c.written) is ∙ none }
+
+  pub first_placed : (p : Transfer) → IsFirstPlace (slot_in job) job.opened job.registers p → IsPlaced (record job { passed = [] }) p
+  first_placed (Sense b) f = (
+    record { is_sense = f.0; bytes_are = f.1; room = omega arith },
+    record { again = again; len = sense_length (geometry_in job) track job.opened job.registers [] f.0 },
+    closes _ _ (sense_closes (geometry_in job) track job.opened job.registers [] f.0) refl refl,
+  )
+  first_placed (Field x) f =
+      let a = action_in job in
+      let no = no_byte a (geometry_in job) track job.opened job.registers in
+      let wants = length_by a (geometry_in job) track job.opened job.registers [] refl
+      ∙ field_wants a (geometry_in job) track job.opened job.registers [] f (omega arith) no in (
+        record { is_field = f; room = omega arith; collected = refl; at_hand = field_at_hand a refl f },
+        record { again = again; len = omega (arith, wants) },
+        ap (λ (k : Closing). k.written) (closing_by a (geometry_in job) track job.opened job.registers [] refl)
+            ∙ field_unwritten a (geometry_in job) track job.opened job.registers [] f (omega arith) no,
+      )
+  first_placed (Read w u) f = (let x = found action.Read w (Read w u) f.0 refl refl f.1 in (
+    record { is_read = f.0; held = (hand action.Read f.0 refl).held; lies = x.0; room = omega arith; begins = omega arith },
+    x.1,
+    closes _ _ (closing_by action.Read (geometry_in job) track job.opened job.registers [] f.0) (sym f.2) refl,
+  ))
+  first_placed (Search w so_far) f =
+      let x = found action.Search w (Search w so_far) f.0 refl refl f.1 in
+      let at = whole action.Search f.0 refl (λ x. x) in
+      (record { is_search = f.0; at_hand = at; lies = x.0; room = omega arith; begins = omega arith; compared = f.2 }, x.1)
+  first_placed (Fill w u) f = (let x = found action.Update w (Fill w u) f.0 refl refl f.1 in (
+    record { is_update = f.0; at_hand = whole action.Update f.0 refl (λ x. x); lies = x.0; place = f.2; none = refl },
+    x.1,
+    closes _ _ (closing_by action.Update (geometry_in job) track job.opened job.registers [] f.0) (sym f.3) refl,
+  ))
+  first_placed _ f = absurd f
 
 first_not_filled : (slot : List ℕ) (o : Opened) (r : Registers) (p : Transfer) → IsFirstPlace slot o r p → is_filled_by p ≡ false
 first_not_filled slot o r (Filled w u) f = absurd f
@@ -262,22 +202,17 @@ first_len job _ f x = x.1.len
 -- What a look leaves.
 
 pub credit_hand : (c : CacheState) (n : ℕ) (o : Opened) → aim o.command ≡ Credited → CreditAtHand (aim o.command) c n → HandIfAimed c n o
-credit_hand c n o is h = λ _. (let at : AtHand c n = rw is at h in record {
-  held = at.held;
-  whole =
-      whole_by (action_of o.command) _ (λ _. at.readable);
-})
+credit_hand c n o is h = λ _. (let at : AtHand c n = rw is at h in
+    record { held = at.held; whole = whole_by (action_of o.command) _ (λ _. at.readable) })
 
 -- The store is not called.
 comes_quiet : (loads saves : Bool) (d now : Parts) (after : Option Fault → DriveState) → Stands now
     → now.job.cache.image ≡ d.job.cache.image → saves ≡ false
     → state_of now ≡ with_image (after None) now.job.cache.image → Comes loads saves (state_of d) after now
 comes_quiet loads saves d now after x image s state =
-    let none : fault_met (state_of d) (state_of now) ≡ None =
-    fault_none (state_of d) (state_of now) (ap (λ (i : ImageState). i.failures) image) in
     record {
       stands = x;
-      state = rw none state;
+      state = rw (fault_none (state_of d) (state_of now) (ap (λ (i : ImageState). i.failures) image)) state;
       calls = calls_none loads saves (state_of d) (state_of now) image s;
       at_hand = λ e. absurd (no_more d.job.cache.image.loads (sym (ap (λ (i : ImageState). i.loads) image) ∙ e));
     }
@@ -308,10 +243,9 @@ module _ (old : HalfDone) (was : Mark) (x : Stands (parts_of old was Looking)) w
       let place = p.place in
       let empty : is_filled_by place ≡ false = first_not_filled (own_slot old) o old.registers place f in
       let after : HalfDone = record old { opened = o; progress = first_progress (action_of o.command) place; passed = [] } in
-      let placed = first_placed (at_work after) place f h again in
-      let len = first_len (at_work after) place f placed in
+      let placed = first_placed (at_work after) h again place f in
       let left_is : remaining (action_of o.command) place 0 ≡ length_after old.cache.image.geometry
-      (track_of (own_slot old)) o old.registers [] = omega (arith, len) in
+      (track_of (own_slot old)) o old.registers [] = omega (arith, first_len (at_work after) place f placed) in
       rw (p_is, s_is)
       (comes_quiet _ _ asked (parts_of after was Passing) _
       (record {
@@ -319,14 +253,10 @@ module _ (old : HalfDone) (was : Mark) (x : Stands (parts_of old was Looking)) w
         arm = x.arm;
         anchored = x.anchored;
         marked = rw empty x.marked;
-        work =
-            record { moved = refl; left = omega arith; placed = placed; no_credit = x.work.no_credit };
+        work = record { moved = refl; left = omega arith; placed = placed; no_credit = x.work.no_credit };
       })
-      refl (rw first (and-false (is_written_by was))) (rw (
-        no_filled_seen old.cache.slots (own_track old) old.before place empty,
-        first,
-        left_is,
-      ) refl))
+      refl (rw first (and-false (is_written_by was)))
+      (rw (no_filled_seen old.cache.slots (own_track old) old.before place empty, first, left_is) refl))
 
   -- The arm stays, and its registers are these.
   stays_looks : (q : Registers) (s : DriveStage) → old.cache.held ≡ Some (own_track old) → StaysAt old.registers q
@@ -339,8 +269,7 @@ module _ (old : HalfDone) (was : Mark) (x : Stands (parts_of old was Looking)) w
       (record {
         volume = x.volume;
         arm = record { cylinder = rw keeps.cylinder x.arm.cylinder; head = rw keeps.head x.arm.head };
-        anchored =
-            λ _. held ∙ rw (keeps.cylinder, keeps.head) refl;
+        anchored = λ _. held ∙ rw (keeps.cylinder, keeps.head) refl;
         marked = rw plain x.marked;
         work = work;
       })
@@ -351,12 +280,9 @@ module _ (old : HalfDone) (was : Mark) (x : Stands (parts_of old was Looking)) w
       → sees old.opened ≡ IndexPassed q → Looks asked (parts_of (record old { registers = q }) was Looking)
   passed_looks q k aimed held sighted =
       let keeps = rw sighted at (sight_keeps old.cache.image.geometry (track_of (own_slot old)) old.opened old.registers x.arm) in
-      stays_looks q Looking held keeps refl (record {
-        transfers = x.work.transfers;
-        credit = rw aimed tt;
-        no_credit = keeps.credit
-            ∙ x.work.no_credit;
-      }) (rw sighted (and-false (is_written_by was))) (rw sighted refl)
+      stays_looks q Looking held keeps refl
+      (record { transfers = x.work.transfers; credit = rw aimed tt; no_credit = keeps.credit ∙ x.work.no_credit })
+      (rw sighted (and-false (is_written_by was))) (rw sighted refl)
 
   -- it finds none
   pub missed_looks : (q : Registers) → old.cache.held ≡ Some (own_track old) → sees old.opened ≡ Missed q
@@ -384,12 +310,8 @@ module _ (old : HalfDone) (was : Mark) (x : Stands (parts_of old was Looking)) w
   pub lost_looks : (new : HalfDone) (now : Mark) (q : Registers) → sees old.opened ≡ NextHead q → Loses old new now
       → Looks asked (parts_of new now Failed)
   lost_looks new now q sighted l =
-      let after : HalfDone = record old {
-        cache = after_failed_save old.cache l.left;
-        registers = lost_registers old.registers;
-        passed =
-            [];
-      } in
+      let after : HalfDone =
+      record old { cache = after_failed_save old.cache l.left; registers = lost_registers old.registers; passed = [] } in
       let drive = state_of (parts_of after Lost Failed) in
       let s = save_lost asked old new now drive x refl refl l refl in
       rw (l.job, l.mark_is) (record {
@@ -410,13 +332,8 @@ module _ (old : HalfDone) (was : Mark) (x : Stands (parts_of old was Looking)) w
       → Looks asked (parts_of (record old { cache = c'; registers = r' }) was Failed)
   unloaded_looks c' r' k aimed not e f =
       let c = old.cache in
-      let drive = state_of (parts_of (record old {
-        cache = after_failed_hold c;
-        registers = with_cause old.registers STORE_FAULT;
-        passed =
-            [];
-      }) was Failed) in
-      let met : fault_met (state_of asked) drive ≡ Some LoadFails = fault_loading (state_of asked) drive refl refl in
+      let drive = state_of (parts_of
+      (record old { cache = after_failed_hold c; registers = with_cause old.registers STORE_FAULT; passed = [] }) was Failed) in
       rw (e, f) (record {
         stands = record {
           volume = volume_not_held c x.volume;
@@ -425,7 +342,7 @@ module _ (old : HalfDone) (was : Mark) (x : Stands (parts_of old was Looking)) w
           marked = x.marked;
           work = rw x.work.no_credit tt;
         };
-        state = rw (met, aimed) refl;
+        state = rw (fault_loading (state_of asked) drive refl refl, aimed) refl;
         calls = calls_of_failed_hold _ _ c (state_of asked) drive refl refl (rw aimed refl) (rw (not_written not) refl);
         at_hand = λ _. not_written not;
       })

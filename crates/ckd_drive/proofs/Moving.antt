@@ -36,8 +36,7 @@ behind_less a k = omega arith
 pub lies_first : (slot bytes : List ℕ) (w : Window) (k : ℕ) → Lies slot w bytes → k ≤ w.len → slice_range slot w.start (w.start + k)
     ≡ take k bytes
 lies_first slot bytes w k l le =
-    let here : take w.len (drop w.start slot) ≡ bytes = rw (behind_less w.start w.len) at l.here in
-    rw (behind_less w.start k, ← here) (sym (take-take k w.len (drop w.start slot) le))
+    rw (behind_less w.start k, ← (rw (behind_less w.start w.len) at l.here)) (sym (take-take k w.len (drop w.start slot) le))
 
 drop_take : (k n : ℕ) (s : List ℕ) → k ≤ n → drop k (take n s) ≡ take (n - k) (drop k s)
 drop_take k n s le = (let e : n ≡ k + (n - k) = omega (arith, le) in
@@ -72,7 +71,6 @@ window_moves half more w v l room begins le =
     let whole : length area ≡ length half.passed + w.len = omega (arith, l.size, length-drop (length half.passed) area, room) in
     let behind : drop (length more) (drop (length half.passed) area) ≡ drop (length (half.passed ++ more)) area =
     drop-drop (length more) (length half.passed) area ∙ rw far refl in
-    let here : take w.len (drop w.start slot) ≡ drop (length half.passed) area = rw (behind_less w.start w.len) at l.here in
     record {
       lies = record {
         within = omega (arith, l.within, le);
@@ -80,7 +78,7 @@ window_moves half more w v l room begins le =
         here = rw (
           behind_less (w.start + length more) (w.len - length more),
           ← behind,
-          ← here,
+          ← (rw (behind_less w.start w.len) at l.here),
           drop_take (length more) w.len (drop w.start slot) le,
           drop-drop (length more) w.start slot,
         ) refl;
@@ -169,10 +167,9 @@ finished d now c before place x now_is passing f = by_place d.job.progress.place
         let a = k.0 in
         let job = d.job in
         let S : HalfDone → Type 0 = λ h. Stands (parts_of h d.mark Passing) in
-        let nothing : job.passed ++ [] ≡ job.passed = append-nil job.passed in
         let moved : job.progress.moved + 0 ≡ job.progress.moved = omega arith in
         let left : job.progress.left - 0 ≡ job.progress.left = omega arith in
-        let same : with_taken job [] c before place ≡ with_place job c before place = rw (nothing, moved, left) refl in
+        let same : with_taken job [] c before place ≡ with_place job c before place = rw (append-nil job.passed, moved, left) refl in
         record {
           stands = rw is (subst S same (taken_stands x is a));
           passes = is;
@@ -185,13 +182,12 @@ finished d now c before place x now_is passing f = by_place d.job.progress.place
 
 -- Bytes that are given.
 
-same_closing : (job : AtWork) (t : Sighted) (more : List ℕ) (u : CommandEnd) → closing_in (record job { passed = job.passed ++ more }) t
-    ≡ closing_in job t → ClosesUnwritten job t u → ClosesUnwritten (record job { passed = job.passed ++ more }) t u
-same_closing job t more u same k = record {
-  so = ap command_end same ∙ k.so;
-  unwritten = ap (λ (x : Closing). x.written) same
-      ∙ k.unwritten;
-}
+same_closing : (job : AtWork) (t : Sighted) (more : List ℕ) (u : CommandEnd) (k : Closing) → ((b : List ℕ)
+    → closing_in (record job { passed = b }) t ≡ k) → ClosesUnwritten job t u
+    → ClosesUnwritten (record job { passed = job.passed ++ more }) t u
+same_closing job t more u k same x =
+    let e = same (job.passed ++ more) ∙ sym (same job.passed) in
+    record { so = ap command_end e ∙ x.so; unwritten = ap (λ (y : Closing). y.written) e ∙ x.unwritten }
 
 read_absorbs : (half : HalfDone) (more : List ℕ) (w : Window) (u : Bool) → Works half → half.progress.place ≡ Read w u
     → length more ≤ half.progress.left
@@ -201,17 +197,11 @@ read_absorbs half more w u x at may =
     let placed = rw at at x.goes.placed in
     let h = placed.0 in
     let m = window_moves half more w x.volume h.lies h.room h.begins (omega (arith, left, may)) in
-    let closes = λ (b : List ℕ). closing_by action.Read half.cache.image.geometry (track_of (own_slot half)) half.opened half.registers b
-    h.is_read in
     absorbs_plain half more (Read (record { start = w.start + length more; len = w.len - length more }) u) x (rw at refl) refl (rw at refl)
     (rw at refl) (
       record { is_read = h.is_read; held = h.held; lies = m.lies; room = m.room; begins = m.begins },
-      record {
-        again = placed.1.again;
-        len = length_by action.Read half.cache.image.geometry (track_of (own_slot half)) half.opened
-            half.registers (half.passed ++ more) h.is_read ∙ m.len;
-      },
-      same_closing (at_work half) _ more _ (closes (half.passed ++ more) ∙ sym (closes half.passed)) placed.2,
+      record { again = placed.1.again; len = length_by action.Read _ _ half.opened half.registers (half.passed ++ more) h.is_read ∙ m.len },
+      same_closing (at_work half) _ more _ _ (λ b. closing_by action.Read _ _ half.opened half.registers b h.is_read) placed.2,
     )
     m.small
 
@@ -225,12 +215,10 @@ sense_absorbs half more b x at may =
     let wants = sense_length half.cache.image.geometry (track_of (own_slot half)) half.opened half.registers
     (half.passed ++ more) h.is_sense in
     let room : length (half.passed ++ more) ≤ 6 = omega (arith, far, left, may, h.room) in
-    let closes = λ (b : List ℕ). closes_sense half.cache.image.geometry (track_of (own_slot half)) half.opened half.registers b h.is_sense
-    in
     absorbs_plain half more (Sense b) x (rw at refl) refl (rw at refl) (rw at (omega (arith, far))) (
       record { is_sense = h.is_sense; bytes_are = h.bytes_are; room = room },
       record { again = placed.1.again; len = omega (arith, wants, room) },
-      same_closing (at_work half) _ more _ (closes (half.passed ++ more) ∙ sym (closes half.passed)) placed.2,
+      same_closing (at_work half) _ more _ _ (λ b. closes_sense _ _ half.opened half.registers b h.is_sense) placed.2,
     )
     (omega (arith, room, far))
 
@@ -272,15 +260,8 @@ sense_lends d b now x is at now_is =
     let left : p.left ≤ 6 - length d.job.passed = rw at at goes.left in
     let long : length b ≡ 6 = ap length h.bytes_are in
     rw (← now_is, is) (record {
-      size = omega (
-        arith,
-        length-take (p.moved + p.left - p.moved) (drop p.moved b),
-        length-drop p.moved b,
-        long,
-        left,
-        goes.moved,
-        h.room,
-      );
+      size =
+          omega (arith, length-take (p.moved + p.left - p.moved) (drop p.moved b), length-drop p.moved b, long, left, goes.moved, h.room);
       bytes_are = rw (← goes.moved, area_by action.GiveSense _ d.job.opened d.job.registers h.is_sense, h.bytes_are) refl;
     })
 
@@ -294,11 +275,10 @@ read_lends d slot w u now x is at here_is now_is =
     let goes = goes_of d x is in
     let left : p.left ≤ w.len = rw at at goes.left in
     let h = (rw at at goes.placed).0 in
-    let slot_now : slot ≡ old = slot_is d.job.cache (own_track d.job) slot h.held here_is in
     let area = area_bytes (track_of old) d.job.opened d.job.registers in
     let here : slice_range old w.start (w.start + p.left) ≡ slice_range area (length d.job.passed) (length d.job.passed + p.left) =
     lies_first old (drop (length d.job.passed) area) w p.left h.lies left ∙ rw (behind_less (length d.job.passed) p.left) refl in
-    rw (slot_now, ← now_is, is) (record {
+    rw (slot_is d.job.cache (own_track d.job) slot h.held here_is, ← now_is, is) (record {
       size = omega (arith, length-take (w.start + p.left - w.start) (drop w.start old), length-drop w.start old, left, h.lies.within);
       bytes_are = rw at here;
     })

@@ -1,5 +1,5 @@
 -- Tracks that a command begins to write.
-use Rattle.std.proofs.Common.{◌≡◌, ◌∙◌, ap, sym, refl, ℕ, ◌+◌, ◌-◌, ◌<◌, ◌≤◌, List, [], ◌∷◌, ◌++◌, true, false, ◌&&◌, ◌==◌, Some}
+use Rattle.std.proofs.Common.{◌≡◌, ◌∙◌, ap, sym, refl, ℕ, ◌+◌, ◌<◌, ◌≤◌, List, [], ◌∷◌, ◌++◌, true, false, ◌&&◌, ◌==◌, Some}
 use Rattle.std.proofs.Common.{length, take, drop, bytes_eq, length-append, length-take, append-nil, arith}
 use Rattle.std.proofs.lemmas.List.{take-append-drop, drop_all, set-get_or}
 use Rattle.std.proofs.lemmas.Bool.{and_parts, cond_both, eqb-true, false_from_ne_true}
@@ -17,7 +17,7 @@ use Rattle.ckd_drive.specs.declared.transfer.Whole.TheVariants as whole
 use Rattle.ckd_slot.specs.declared.windows.Window.{Window}
 use Rattle.ckd_drive.specs.declared.transfer.Transfer.TheVariants.{Field, Filled}
 use Rattle.ckd_command.specs.Tables.{is_giving}
-use Rattle.ckd_position.specs.Contents.{Sighted, padded}
+use Rattle.ckd_position.specs.Contents.{Sighted}
 use Rattle.ckd_command.specs.Commands.{Closing, sight, length_after, closing, command_end, own_home_address, home_address_ends, writes}
 use Rattle.ckd_slot.specs.Buffer.{lengths_on}
 use Rattle.ckd_slot.specs.Cache.{slot_held, with_held}
@@ -58,18 +58,15 @@ newly_absorbs half more new w what le0 x begins room f is =
     let k = f.closes [] le0 in
     let read = reads_new c.image.geometry.track_size k.track new k.fits is in
     let at_new = new_slot_at c n new begins.held (there half x) in
-    let same : (passed ++ more) ++ [] ≡ passed ++ more = append-nil (passed ++ more) in
-    let made : new ≡ f.head ++ (padded (drop f.lead (passed ++ more)) f.room ++ f.tail) = rw same at (is ∙ k.slot_is) in
-    let wants = rw same at (f.wants [] le0) in
-    let far = length-append passed more in
+    let same = append-nil (passed ++ more) in
     let has : HasFilled (new_work half more new w what) w what = record {
       at_hand = record { held = begins.held; readable = rw at_new read.0 };
       size = x.volume.sizes n [] (there half x);
       filled = f;
-      slot_is = at_new ∙ made;
-      found = record { again = begins.again; len = omega (arith, wants, f.rest, f.begins) };
+      slot_is = at_new ∙ (rw same at (is ∙ k.slot_is));
+      found = record { again = begins.again; len = omega (arith, (rw same at (f.wants [] le0)), f.rest, f.begins) };
       takes = begins.takes;
-      some = omega (arith, begins.some, far);
+      some = omega (arith, begins.some, length-append passed more);
     } in
     rw (slot_is c n (slot_held c) begins.held refl) (written_absorbs half (own_slot half) more new w what x begins.held read.2 room has
     (set-get_or c.slots n [] ∙ sym (no_filled_seen c.slots n half.before half.progress.place begins.plain)))
@@ -87,11 +84,8 @@ pub is_whole : (a : Action) (own : List ℕ) (moved : ℕ) (f : List ℕ) → Is
 is_whole action.WriteHomeAddress own moved f = cond_both (moved == 5 && bytes_eq (take 5 f) own) _ _
     (IsWhole action.WriteHomeAddress own moved f)
     (λ whole. (let t = and_parts (moved == 5) (bytes_eq (take 5 f) own) whole in (refl, eqb-true moved 5 t.0, t.1, refl))) (λ _. tt)
-is_whole action.Format own moved f = cond_both (moved == 8) _ _ (IsWhole action.Format own moved f) (λ eight. (
-  refl,
-  eqb-true moved 8 eight,
-  refl,
-)) (λ _. tt)
+is_whole action.Format own moved f = cond_both (moved == 8) _ _ (IsWhole action.Format own moved f)
+    (λ eight. (refl, eqb-true moved 8 eight, refl)) (λ _. tt)
 is_whole _ own moved f = tt
 
 -- what is no whole field changes nothing, by each thing that the test of a field reads
@@ -130,7 +124,6 @@ home_filled job now is five own room lens =
     let b = job.passed in
     let s = slot_of g.track_size (bare_track b) in
     let f = bare_fits g.track_size b five room in
-    let long = length-slot_of g.track_size (bare_track b) f.room in
     record {
       head = take 5 s;
       tail = drop 5 s;
@@ -139,7 +132,7 @@ home_filled job now is five own room lens =
       begins = omega (arith, five);
       lead_small = omega arith;
       within = omega (arith, room);
-      start = omega (arith, length-take 5 s, long, room, five);
+      start = omega (arith, length-take 5 s, length-slot_of g.track_size (bare_track b) f.room, room, five);
       rest = omega (arith, five);
       closes = λ more le.
           (let e = nothing_more b more le in
@@ -180,11 +173,7 @@ home_absorbs {half} {more} {f} {field} h new x e new_is =
     let lens : lengths_on (track_in now) ≡ lengths_on (bare_track b) =
     ap (λ (y : List ℕ). lengths_on (track_in y)) (new_slot_at c n new held (there half works)) ∙ ap lengths_on read.1 in
     let w : Window = record { start = 5; len = 0 } in
-    newly_absorbs half more new w written.HomeAddress (omega arith) works (record {
-      held = held;
-      plain = rw x.placed refl;
-      again = k.again;
-      takes = x.may.taking;
-      some = omega (arith, five, k.long);
-    }) (record { left = (let left = rw home.0 at k.left in omega (arith, left, five)); small = omega (arith, five, k.long) })
+    newly_absorbs half more new w written.HomeAddress (omega arith) works
+    (record { held = held; plain = rw x.placed refl; again = k.again; takes = x.may.taking; some = omega (arith, five, k.long) })
+    (record { left = (let left = rw home.0 at k.left in omega (arith, left, five)); small = omega (arith, five, k.long) })
     (home_filled (new_work half more new w written.HomeAddress) now home.0 five (rw come at home.2) room lens) made

@@ -44,8 +44,7 @@ update_extent _ e = absurd cc
 in_range : (t : Track) (i : ℕ) (size : Record → ℕ) → size no_record ≡ 0 → 0 < size (record_in t i) → i < length t.records
 in_range t i size none some = elim (cases_lt i (length t.records)) [
   | inl lt ↦ lt
-  | inr le ↦ absurd (let z =
-      ap size (get_or_past t.records i no_record le) in omega (arith, z, none, some))
+  | inr le ↦ absurd (let z = ap size (get_or_past t.records i no_record le) in omega (arith, z, none, some))
 ]
 
 bytes_there : (e : AreaBytes) (t : Track) (a : Area) → IsUpdate e → 0 < length (bytes_of e (Ok t) a) → IsRecordOf t a
@@ -57,15 +56,8 @@ bytes_there _ t a u some = absurd u
 
 -- the record that an update fills
 abbrev fill_filling : AtWork → RecordPart → ℕ → CommandEnd → Filling
-fill_filling job part i u = record {
-  closes = u;
-  track = track_in job.before;
-  extent = extent_of job.opened.command;
-  part = part;
-  number =
-      i;
-  lead = 0;
-}
+fill_filling job part i u =
+    record { closes = u; track = track_in job.before; extent = extent_of job.opened.command; part = part; number = i; lead = 0 }
 
 -- what a look found of an update: an area of a record of the track, with as many bytes as it gets
 record FindsArea (job : AtWork) (part : RecordPart) (i : ℕ) : Type 0 where
@@ -84,12 +76,11 @@ fill_filled : (job : AtWork) (part : RecordPart) (i : ℕ) (b : List ℕ) (u : C
 fill_filled job part i b u found some le so =
     let o = job.opened in
     let k = update_closes (geometry_in job) job.before o job.registers (Of part i) b found.is found.reads found.area some in
-    let wants = length_by action.Update (geometry_in job) (track_of job.before) o job.registers b found.is in
     record {
       so = ap command_end k ∙ so;
       written = ap (λ (y : Closing). y.written) k
           ∙ ap (λ (y : Track). Some y) (sym (padded_changes (extent_of o.command) part i (track_in job.before) b found.update le));
-      wants = omega (arith, wants, found.size);
+      wants = omega (arith, length_by action.Update (geometry_in job) (track_of job.before) o job.registers b found.is, found.size);
     }
 
 -- A command's first bytes that replace others.
@@ -112,9 +103,7 @@ no_area : (half : HalfDone) (more : List ℕ) (w : Window) (no_data : Bool) → 
     → half.opened.area ≡ None → (length more == 0) ≡ false → ⊥
 no_area half more w no_data may at none came =
     let some : 0 < length more = grind (arith, nat_tests) in
-    let g = half.cache.image.geometry in
-    let n : ℕ = track_under g half.registers in
-    let t = track_of (slot_at half.cache.slots n) in
+    let t = track_of (slot_at half.cache.slots (track_under half.cache.image.geometry half.registers)) in
     let left : half.progress.left ≤ w.len = rw at at may.works.goes.left in
     let h = (rw at at may.works.goes.placed).0 in
     let bytes : area_bytes t half.opened half.registers ≡ [] = area_by action.Update t half.opened half.registers h.is_update
@@ -127,12 +116,11 @@ fill_goes : (half : HalfDone) (more : List ℕ) (a : Area) (w : Window) (no_data
     → FillGoes half more a w no_data
 fill_goes half more a w no_data may at area some =
     let r = half.registers in
-    let p = half.progress in
     let g = half.cache.image.geometry in
     let n : ℕ = track_under g r in
     let old = slot_at half.cache.slots n in
     let t = track_of old in
-    let left : p.left ≤ w.len = rw at at may.works.goes.left in
+    let left : half.progress.left ≤ w.len = rw at at may.works.goes.left in
     let placed = rw at at may.works.goes.placed in
     let h = placed.0 in
     let e = extent_of half.opened.command in
@@ -142,7 +130,6 @@ fill_goes half more a w no_data may at area some =
     ∙ ap (λ (y : Option Area). bytes_at e t y) area in
     let count : length (bytes_of e t a) ≡ w.len = ap length (sym bytes) ∙ h.lies.size in
     let full : 0 < length (bytes_of e t a) = omega (arith, count, left, may.room, some) in
-    let closes = closing_by action.Update g t half.opened r [] h.is_update in
     record {
       is = h.is_update;
       hand = h.at_hand;
@@ -153,7 +140,7 @@ fill_goes half more a w no_data may at area some =
       within = omega (arith, h.lies.within, may.works.volume.sizes n [] (there half may.works));
       again = placed.1.again;
       size = h.lies.size;
-      so = ap command_end (sym closes) ∙ rw h.none at placed.2.so;
+      so = ap command_end (sym (closing_by action.Update g t half.opened r [] h.is_update)) ∙ rw h.none at placed.2.so;
     }
 
 -- the slot once its record has these bytes, and zeros behind them
@@ -196,13 +183,8 @@ fill_absorbs half more (Of part i) w no_data may at area some k f =
     let none_long : length half.passed ≡ 0 = ap length k.none in
     let w' : Window = record { start = w.start + length more; len = w.len - length more } in
     let job = new_work half more new w' (written.Area no_data) in
-    let found : FindsArea job part i = record {
-      is = k.is;
-      update = upd;
-      reads = old_read old k.hand.readable;
-      area = area;
-      size = k.size ∙ pl.1;
-    } in
+    let found : FindsArea job part i =
+    record { is = k.is; update = upd; reads = old_read old k.hand.readable; area = area; size = k.size ∙ pl.1 } in
     let filled : IsFilled job now w' u =
     form_filled job now w' (fill_filling job part i u) (record { update = upd; fits = f; there = lt }) lengths (record {
       begins = omega arith;
@@ -212,13 +194,8 @@ fill_absorbs half more (Of part i) w no_data may at area some k f =
     }) (λ m le. fill_filled job part i (b ++ m) u found (omega (arith, length-append b m, b_long, some))
     (omega (arith, length-append b m, b_long, le, k.le, pl.1)) k.so) in
     let whole : b ++ [] ≡ more = append-nil b ∙ b_is in
-    newly_absorbs half more new w' (written.Area no_data) (omega arith) may.works (record {
-      held = k.hand.held;
-      plain = rw at refl;
-      again = k.again;
-      takes = may.taking;
-      some = omega (arith, some);
-    }) (record {
+    newly_absorbs half more new w' (written.Area no_data) (omega arith) may.works
+    (record { held = k.hand.held; plain = rw at refl; again = k.again; takes = may.taking; some = omega (arith, some) }) (record {
       left = (let l = k.left in omega (arith, l));
       small = omega (arith, none_long, k.le, k.within, may.works.volume.geometry.limit);
     }) filled
@@ -247,6 +224,5 @@ fills half more w no_data may at came = by half.opened.area refl
           area = a;
           at = rw old k.at;
           le = k.le;
-          absorbs =
-              λ f. (let x = fill_absorbs half more a w no_data may at area some k (rw old at f) in rw old (rw old at x));
+          absorbs = λ f. (let x = fill_absorbs half more a w no_data may at area some k (rw old at f) in rw old (rw old at x));
         }

@@ -3,14 +3,13 @@
 use Rattle.std.proofs.Common.{◌≡◌, ◌∙◌, inl, inr, ◌⊎◌, ap, sym, subst, refl, ℕ, ◌+◌, List, Bool, true, false, Option, Some, None, arith}
 use Rattle.std.proofs.lemmas.Bool.{and_parts, true_from_ne_false}
 use Rattle.ckd_command.specs.declared.registers.Registers.{Registers}
-use Rattle.ckd_command.specs.declared.registers.Mark.TheVariants.{Written}
 use Rattle.ckd_command.specs.declared.tables.Aim.{Aim}
 use Rattle.ckd_command.specs.declared.tables.Aim.TheVariants.{Next}
 use Rattle.ckd_command.specs.Answers.{Beginning, Sight}
 use Rattle.ckd_command.specs.Answers as command_answer
 use Rattle.ckd_command.specs.declared.close.DriveEnding.{DriveEnding}
 use Rattle.ckd_command.specs.Tables.{aim}
-use Rattle.ckd_command.specs.Commands.{Closing, beginning, sight, closing}
+use Rattle.ckd_command.specs.Commands.{Closing, beginning, closing}
 use Rattle.ckd_command.specs.Drive.{State, Fault, LoadFails, SaveFails, Closed, begin, begun, looked, look_for, closed, with_registers}
 use Rattle.ckd_command.specs.Drive.{is_written, track_under, tells_equipment_check, unsaved, lost, failed}
 use Rattle.ckd_command.proofs.CommandFacts.{NotTold, BeginsSilent, SightSilent, closing_facts, beginning_silent, sight_silent}
@@ -78,8 +77,8 @@ FailsAtBegin f d b = (answer_of_begin (begun f d.state b) ≡ answer.Rejected) �
 
 loses_at_begin : (d : DriveState) (b : Beginning) (left : List ℕ) → is_written d.state ≡ true → goes_to_cylinder_zero b ≡ true
     → FailsAtBegin (Some (SaveFails left)) d b
-loses_at_begin d (command_answer.ToCylinderZero r o) left w e = (let written : d.state.mark ≡ Written = mark_written d.state.mark w in
-    rw written (refl, lost_tells (with_registers d.state r) left))
+loses_at_begin d (command_answer.ToCylinderZero r o) left w e =
+    rw (mark_written d.state.mark w) (refl, lost_tells (with_registers d.state r) left)
 loses_at_begin d _ left w e = absurd cc
 
 pub begin_reports : (old new : DriveState) (code : ℕ) (a : Begun)
@@ -109,16 +108,11 @@ abbrev pub FailsAtLook : Option Fault → DriveState → Work → Type 0
 FailsAtLook f d w = ((after_look_of f d w).work ≡ Over failed_ending) × TellsFault (after_look_of f d w).state
 
 loses_at_look : (d : DriveState) (w : Work) (left : List ℕ) → look_saves_of d w ≡ true → FailsAtLook (Some (SaveFails left)) d w
-loses_at_look d (Looking o) left e = at _ both.1
+loses_at_look d (Looking o) left e = at _ (and_parts (is_written d.state) _ e).1
   where
-    both : (is_written d.state ≡ true) × (goes_to_next_head (sight d.state.volume.geometry (track_under d.state) o d.state.registers)
-        ≡ true)
-    both = and_parts (is_written d.state) _ e
-
     at : (s : Sight) → goes_to_next_head s ≡ true → ((after_sight (looked (Some (SaveFails left)) (open_at d o) s) d).work
         ≡ Over failed_ending) × TellsFault (after_sight (looked (Some (SaveFails left)) (open_at d o) s) d).state
-    at (command_answer.NextHead r) h = (let written : d.state.mark ≡ Written = mark_written d.state.mark both.0 in
-        rw written (refl, lost_tells d.state left))
+    at (command_answer.NextHead r) h = rw (mark_written d.state.mark (and_parts (is_written d.state) _ e).0) (refl, lost_tells d.state left)
     at _ h = absurd cc
 loses_at_look d _ left e = absurd cc
 
@@ -136,9 +130,9 @@ pub look_reports : (old new : DriveState)
     → (new.image.loads ≡ old.image.loads + 1 → is_written old.state ≡ false)
     → Reports (new.work ≡ Over failed_ending) old new
 look_reports old new state k at_hand =
-    let work : new.work ≡ (after_look (fault_met old new) old).work = ap (λ (d : DriveState). d.work) state in
     let P : Work → Type 0 = λ w. Reports (w ≡ Over failed_ending) old new in
-    subst P (sym work) (reports_by (λ f. (after_look f old).work ≡ Over failed_ending) (look_loads old) (look_saves old) old new
+    subst P (sym (ap (λ (d : DriveState). d.work) state))
+    (reports_by (λ f. (after_look f old).work ≡ Over failed_ending) (look_loads old) (look_saves old) old new
     (λ f. (after_look f old).state) (ap (λ (d : DriveState). d.state) state) k (look_quiet old old.work)
     (λ left saved. loses_at_look old old.work left saved) (λ loaded more. loads_at_look old old.work loaded (at_hand more)))
 
@@ -158,8 +152,7 @@ loses_at_end : (d : DriveState) (w : Work) (left : List ℕ) → end_saves_of d 
     ≡ failed (lost d.state left)
 loses_at_end d (Passing o b l) left e =
     let both = and_parts (is_written d.state) (closing d.state.volume.geometry (track_under d.state) o d.state.registers b).moves_off e in
-    let written : d.state.mark ≡ Written = mark_written d.state.mark both.0 in
-    rw (both.1, written) refl
+    rw (both.1, mark_written d.state.mark both.0) refl
 loses_at_end d _ left e = absurd cc
 
 pub end_reports : (old new : DriveState) (e : DriveEnding)
@@ -182,10 +175,7 @@ settle_reports old new state k =
     let P : State → Type 0 = λ s. Reports (unsaved s ≡ Some (old.state.registers.cylinder, old.state.registers.head)) old new in
     subst P (sym now) (reports_by (λ f. unsaved (settled_state f old.state) ≡ Some (old.state.registers.cylinder, old.state.registers.head))
     false (is_written old.state) old new (λ f. settled_state f old.state) now k (λ e. e)
-    (λ left saved.
-    (let written : old.state.mark ≡ Written = mark_written old.state.mark saved in
-    let is : settled_state (Some (SaveFails left)) old.state ≡ lost old.state left = rw written refl in
-    (rw is refl, rw is (lost_tells old.state left))))
+    (λ left saved. rw (mark_written old.state.mark saved) (refl, lost_tells old.state left))
     (λ loaded more. absurd cc))
 
 -- Over any calls of the drive.

@@ -1,14 +1,13 @@
 -- A search that fails at once, on the track at hand.
-use Rattle.std.proofs.Common.{◌≡◌, ◌⊎◌, inl, inr, ◌∙◌, ap, sym, refl, subst, arith, ℕ, zero, suc, ◌<◌, List, Bool, true, false, Option}
+use Rattle.std.proofs.Common.{◌≡◌, ◌⊎◌, inl, inr, ◌∙◌, ap, sym, refl, arith, ℕ, zero, suc, ◌<◌, List, Bool, true, false, Option}
 use Rattle.std.proofs.Common.{Some, None, length}
-use Rattle.std.proofs.lemmas.Bool.Decides.{nat_tests}
+use Rattle.std.proofs.lemmas.Bool.{eq-eqb, ne_eqb, lt-ltb}
 use Rattle.std.specs.Prelude.{◌+◌, ◌&&◌, ◌==◌, if◌then◌else◌, nat_lt, slice_range}
 use Rattle.std.proofs.lemmas.Option.{cond_some}
 use Rattle.std.proofs.Math.Bool.{and-false}
 use Rattle.ckd_track.specs.Track.{track_of, track_or_none}
 use Rattle.ckd_position.specs.declared.areas.Area.{Area}
 use Rattle.ckd_position.specs.declared.areas.Kind.{Kind}
-use Rattle.ckd_position.specs.declared.areas.Kind.TheVariants as kind
 use Rattle.ckd_position.specs.declared.areas.Next.{Next as NextArea}
 use Rattle.ckd_position.specs.declared.areas.Next.TheVariants as next
 use Rattle.ckd_position.specs.declared.areas.Position.{Position}
@@ -37,8 +36,7 @@ use Rattle.ckd_command.specs.declared.tables.Aim.TheVariants.{Next}
 use Rattle.ckd_command.specs.Answers.{Sight}
 use Rattle.ckd_command.specs.Commands.{area_bytes, begin_allowed, beginning, closing, ends, ending_status, refusal, search_ends, sight}
 use Rattle.ckd_command.specs.Commands.{sight_of, started}
-use Rattle.ckd_command.specs.Drive.{State, Open, Started, Ready, begin, begun, is_written, is_written_by, look, looked, close, length_of}
-use Rattle.ckd_command.specs.Drive.{track_under}
+use Rattle.ckd_command.specs.Drive.{State, Open, Started, Ready, begin, begun, is_written, look, looked, close, length_of, track_under}
 use Rattle.ckd_command.specs.Tables.{aim, action_of, extent_of, area_left, comparison, is_search}
 use Rattle.ckd_command.proofs.Closings.{area_by, closing_by}
 use Rattle.ckd_command.proofs.Lengths.{length_by}
@@ -84,70 +82,19 @@ pub searched_is : (a : Action) (m : Aim) (k : Kind) → Some k ≡ searched_by a
 searched_is action.Search (Next j) k e = (refl, ap Next (cc e))
 searched_is _ _ k e = absurd (cc e)
 
--- the same, by the code of the search; what the code says of each is a premise of its own
-unlike_by : (h : HalfDone) (code : ℕ) (wanted : List ℕ) (read : CommandCode) (k : Kind) (a : Area) → Some read ≡ decoded code
-    → Some k ≡ searched_by (action_of read.command) (aim read.command) → IsUnlike h read.command k wanted a → IsUnlikeBy h code wanted a
-unlike_by h code wanted read k a decodes searched u = record {
-  command = read.command;
-  multi_track = read.multi_track;
-  decodes = sym decodes;
-  kind = k;
-  aimed = (searched_is (action_of read.command) (aim read.command) k searched).1;
-  searches = (searched_is (action_of read.command) (aim read.command) k searched).0;
-  unlike = u;
-}
-
 -- Every mask allows a search.
 
 no_write : (w : WritePermission) (c : Command) → action_of c ≡ action.Search → inhibits_write w c ≡ false
-no_write writes.PermitAllWrites c e = refl
-no_write writes.InhibitHomeAddressAndR0 command.SearchHomeAddressEqual e = refl
-no_write writes.InhibitHomeAddressAndR0 command.SearchIdEqual e = refl
-no_write writes.InhibitHomeAddressAndR0 command.SearchIdHigh e = refl
-no_write writes.InhibitHomeAddressAndR0 command.SearchIdEqualOrHigh e = refl
-no_write writes.InhibitHomeAddressAndR0 command.SearchKeyEqual e = refl
-no_write writes.InhibitHomeAddressAndR0 command.SearchKeyHigh e = refl
-no_write writes.InhibitHomeAddressAndR0 command.SearchKeyEqualOrHigh e = refl
-no_write writes.InhibitFormatWrites command.SearchHomeAddressEqual e = refl
-no_write writes.InhibitFormatWrites command.SearchIdEqual e = refl
-no_write writes.InhibitFormatWrites command.SearchIdHigh e = refl
-no_write writes.InhibitFormatWrites command.SearchIdEqualOrHigh e = refl
-no_write writes.InhibitFormatWrites command.SearchKeyEqual e = refl
-no_write writes.InhibitFormatWrites command.SearchKeyHigh e = refl
-no_write writes.InhibitFormatWrites command.SearchKeyEqualOrHigh e = refl
-no_write writes.InhibitAllWrites command.SearchHomeAddressEqual e = refl
-no_write writes.InhibitAllWrites command.SearchIdEqual e = refl
-no_write writes.InhibitAllWrites command.SearchIdHigh e = refl
-no_write writes.InhibitAllWrites command.SearchIdEqualOrHigh e = refl
-no_write writes.InhibitAllWrites command.SearchKeyEqual e = refl
-no_write writes.InhibitAllWrites command.SearchKeyHigh e = refl
-no_write writes.InhibitAllWrites command.SearchKeyEqualOrHigh e = refl
-no_write w c e = absurd (cc e)
+no_write writes.InhibitHomeAddressAndR0 command.WriteHomeAddress e = cc
+no_write writes.InhibitFormatWrites command.WriteHomeAddress e = cc
+no_write writes.InhibitAllWrites command.WriteHomeAddress e = cc
+no_write _ _ e = cc
 
 no_seek : (p : SeekPermission) (c : Command) → action_of c ≡ action.Search → inhibits_seek p c ≡ false
-no_seek seeks.PermitAllSeeks c e = refl
-no_seek seeks.PermitSeekCylinderAndHead command.SearchHomeAddressEqual e = refl
-no_seek seeks.PermitSeekCylinderAndHead command.SearchIdEqual e = refl
-no_seek seeks.PermitSeekCylinderAndHead command.SearchIdHigh e = refl
-no_seek seeks.PermitSeekCylinderAndHead command.SearchIdEqualOrHigh e = refl
-no_seek seeks.PermitSeekCylinderAndHead command.SearchKeyEqual e = refl
-no_seek seeks.PermitSeekCylinderAndHead command.SearchKeyHigh e = refl
-no_seek seeks.PermitSeekCylinderAndHead command.SearchKeyEqualOrHigh e = refl
-no_seek seeks.PermitSeekHead command.SearchHomeAddressEqual e = refl
-no_seek seeks.PermitSeekHead command.SearchIdEqual e = refl
-no_seek seeks.PermitSeekHead command.SearchIdHigh e = refl
-no_seek seeks.PermitSeekHead command.SearchIdEqualOrHigh e = refl
-no_seek seeks.PermitSeekHead command.SearchKeyEqual e = refl
-no_seek seeks.PermitSeekHead command.SearchKeyHigh e = refl
-no_seek seeks.PermitSeekHead command.SearchKeyEqualOrHigh e = refl
-no_seek seeks.InhibitAllSeeks command.SearchHomeAddressEqual e = refl
-no_seek seeks.InhibitAllSeeks command.SearchIdEqual e = refl
-no_seek seeks.InhibitAllSeeks command.SearchIdHigh e = refl
-no_seek seeks.InhibitAllSeeks command.SearchIdEqualOrHigh e = refl
-no_seek seeks.InhibitAllSeeks command.SearchKeyEqual e = refl
-no_seek seeks.InhibitAllSeeks command.SearchKeyHigh e = refl
-no_seek seeks.InhibitAllSeeks command.SearchKeyEqualOrHigh e = refl
-no_seek p c e = absurd (cc e)
+no_seek seeks.PermitSeekCylinderAndHead command.Seek e = cc
+no_seek seeks.PermitSeekHead command.Seek e = cc
+no_seek seeks.InhibitAllSeeks command.Seek e = cc
+no_seek _ _ e = cc
 
 permitted : (mask : FileMask) (c : Command) → action_of c ≡ action.Search → permit_of mask c ≡ Yes
 permitted mask c e = rw (no_write mask.writes c e, no_seek mask.seeks c e) refl
@@ -157,29 +104,18 @@ permitted mask c e = rw (no_write mask.writes c e, no_seek mask.seeks c e) refl
 begins : (c : Command) (multi_track : Bool) (code : ℕ) (s : State) → action_of c ≡ action.Search
     → decoded code ≡ Some (record { command = c; multi_track = multi_track }) → begin None code s ≡ Started (asked_by c multi_track s)
 unfolding beginning
-begins command.SearchHomeAddressEqual multi_track code s e is = rw
-    (is, permitted s.registers.file_mask command.SearchHomeAddressEqual e) refl
-begins command.SearchIdEqual multi_track code s e is = rw (is, permitted s.registers.file_mask command.SearchIdEqual e) refl
-begins command.SearchIdHigh multi_track code s e is = rw (is, permitted s.registers.file_mask command.SearchIdHigh e) refl
-begins command.SearchIdEqualOrHigh multi_track code s e is = rw (is, permitted s.registers.file_mask command.SearchIdEqualOrHigh e) refl
-begins command.SearchKeyEqual multi_track code s e is = rw (is, permitted s.registers.file_mask command.SearchKeyEqual e) refl
-begins command.SearchKeyHigh multi_track code s e is = rw (is, permitted s.registers.file_mask command.SearchKeyHigh e) refl
-begins command.SearchKeyEqualOrHigh multi_track code s e is = rw (is, permitted s.registers.file_mask command.SearchKeyEqualOrHigh e) refl
-begins _ multi_track code s e is = absurd (cc e)
+begins command.SearchIdEqual multi_track code s e is = rw (is, permitted s.registers.file_mask command.SearchIdEqual e) cc
+begins c multi_track code s e is = rw (is, permitted s.registers.file_mask c e) cc
 
 left_there : (c : Command) (a : Area) → action_of c ≡ action.Search → area_left (extent_of c) a ≡ a
-left_there command.SearchHomeAddressEqual a e = refl
-left_there command.SearchIdEqual a e = refl
-left_there command.SearchIdHigh a e = refl
-left_there command.SearchIdEqualOrHigh a e = refl
-left_there command.SearchKeyEqual a e = refl
-left_there command.SearchKeyHigh a e = refl
-left_there command.SearchKeyEqualOrHigh a e = refl
-left_there _ a e = absurd (cc e)
+left_there command.ReadR0 a e = cc
+left_there _ a e = cc
 
 -- The whole.
 
-module _ (h : HalfDone) (m : Mark) (code : ℕ) (wanted : List ℕ) (a : Area) (u : IsUnlikeBy h code wanted a) where
+-- of an area that passes where the track stands
+module _ (h : HalfDone) (m : Mark) (code : ℕ) (wanted : List ℕ) (a : Area)
+    (u : IsUnlikeBy (turned_to h.registers.position h) code wanted a) where
   abbrev before : DriveState
   before = state_of (parts_of h m Idle)
 
@@ -208,8 +144,7 @@ module _ (h : HalfDone) (m : Mark) (code : ℕ) (wanted : List ℕ) (a : Area) (
       ∙ rw (
         area_by action.Search track found.opened found.state.registers u.searches,
         u.unlike.fails,
-        and-false (nat_lt 0
-            (length wanted)),
+        and-false (nat_lt 0 (length wanted)),
         left_there u.command a u.searches,
       ) refl
 
@@ -229,24 +164,11 @@ module _ (h : HalfDone) (m : Mark) (code : ℕ) (wanted : List ℕ) (a : Area) (
 
 -- Several areas, one behind another.
 
--- an area that passes where the track stands
-here : (h : HalfDone) (code : ℕ) (wanted : List ℕ) (a : Area) → IsUnlikeBy (turned_to h.registers.position h) code wanted a
-    → IsUnlikeBy h code wanted a
-here h code wanted a u = record {
-  command = u.command;
-  multi_track = u.multi_track;
-  decodes = u.decodes;
-  kind = u.kind;
-  aimed = u.aimed;
-  searches = u.searches;
-  unlike = record { readable = u.unlike.readable; comes = u.unlike.comes; long = u.unlike.long; fails = u.unlike.fails };
-}
-
 -- one area more
 one_more : (h : HalfDone) (m : Mark) (code : ℕ) (wanted : List ℕ) (n : ℕ) (p : Position) (a : Area)
     → Turns (λ q. IsUnlikeBy (turned_to q h) code wanted) h.registers.position n p → IsUnlikeBy (turned_to p h) code wanted a
     → PassesBy code wanted a (state_of (parts_of (turned n p h) m Idle)) (state_of (parts_of (turned_to (At a) h) m Idle))
-one_more h m code wanted zero p a t u = passes_by h m code wanted a (here h code wanted a (rw t at u))
+one_more h m code wanted zero p a t u = passes_by h m code wanted a (rw t at u)
 one_more h m code wanted (suc n) p a t u = passes_by (turned_to p h) m code wanted a u
 
 passes_on : (h : HalfDone) (m : Mark) (code : ℕ) (wanted : List ℕ) (n : ℕ) (p : Position)
@@ -270,29 +192,19 @@ pub one_turn_more : (U : Position → Area → Type 0) (from : Position) (n : �
 one_turn_more U from n p a t u = let more : n + 1 ≡ suc n = omega arith in rw more (p, a, t, u, refl)
 
 -- what passes by, by the code of the search
-each : (U V : Position → Area → Type 0) → ((p : Position) (a : Area) → U p a → V p a) → (from : Position) (n : ℕ) (to : Position)
-    → Turns U from n to → Turns V from n to
-each U V f from zero to t = t
-each U V f from (suc n) to (p, a, earlier, u, at) = (p, a, each U V f from n p earlier, f p a u, at)
-
 pub each_by : (h : HalfDone) (code : ℕ) (wanted : List ℕ) (read : CommandCode) (k : Kind) (n : ℕ) (to : Position)
     → Some read ≡ decoded code → Some k ≡ searched_by (action_of read.command) (aim read.command)
     → Turns (λ p. IsUnlike (turned_to p h) read.command k wanted) h.registers.position n to
     → Turns (λ p. IsUnlikeBy (turned_to p h) code wanted) h.registers.position n to
-each_by h code wanted read k n to decodes searched =
-    each (λ p. IsUnlike (turned_to p h) read.command k wanted) (λ p. IsUnlikeBy (turned_to p h) code wanted)
-    (λ p a u. unlike_by (turned_to p h) code wanted read k a decodes searched u) h.registers.position n to
+each_by h code wanted read k zero to decodes searched t = t
+each_by h code wanted read k (suc n) to decodes searched (p, a, earlier, u, at) =
+    let s = searched_is (action_of read.command) (aim read.command) k searched in
+    let c = read.command in
+    let by : IsUnlikeBy (turned_to p h) code wanted a =
+    record { command = c; multi_track = read.multi_track; decodes = sym decodes; kind = k; aimed = s.1; searches = s.0; unlike = u } in
+    (p, a, each_by h code wanted read k n p decodes searched earlier, by, at)
 
 -- When it passes by: exactly where the search fails at once, on the track at hand.
-
-not_same : (a b : ℕ) → (a ≡ b → ⊥) → (a == b) ≡ false
-not_same a b h = grind (arith, nat_tests)
-
-same : (a b : ℕ) → a ≡ b → (a == b) ≡ true
-same a b h = grind (arith, nat_tests)
-
-some_bytes : (n : ℕ) → 0 < n → nat_lt 0 n ≡ true
-some_bytes n h = grind (arith, nat_tests)
 
 -- no track but the one at hand
 pub tells_elsewhere : (h : HalfDone) (c : Command) (wanted : List ℕ) → None ≡ slot_at_hand h.cache (own_track h)
@@ -311,86 +223,70 @@ module _ (h : HalfDone) (c : Command) (k : Kind) (wanted slot : List ℕ) (at : 
   at_hand : holds h.cache.held (own_track h) ≡ true
   at_hand = (cond_some (holds h.cache.held (own_track h)) (slot_held h.cache) slot (sym at)).0
 
-  module _ (m : Mark) (multi_track : Bool) where
-    abbrev asked_here : Open
-    asked_here = asked_by c multi_track (idle_state h m)
+  abbrev asked_here : Mark → Bool → Open
+  asked_here m multi_track = asked_by c multi_track (idle_state h m)
 
-    sees : (x : NextArea) → is_readable (track_of slot) ≡ true → x ≡ next_of_kind (track_or_none (track_of slot)) h.registers.position k
-        → sight h.cache.image.geometry (track_of (own_slot h)) asked_here.opened asked_here.state.registers
-        ≡ sight_of h.cache.image.geometry asked_here.opened asked_here.state.registers x
-    unfolding sight
-    sees x whole is = rw (← own, aimed, searches, whole, ← is) refl
-
-    unread_here : is_readable (track_of slot) ≡ false → false ≡ (holds h.cache.held (own_track h) && fails_by (look None asked_here) wanted)
-    unfolding sight
-    unread_here unread = rw at_hand (rw (← own, aimed, searches, unread) refl)
-
-    passed_here : is_readable (track_of slot) ≡ true → next.IndexPassed
-        ≡ next_of_kind (track_or_none (track_of slot)) h.registers.position k
-        → false ≡ (holds h.cache.held (own_track h) && fails_by (look None asked_here) wanted)
-    passed_here whole is = rw (at_hand, sees next.IndexPassed whole is)
-        (passing (λ (x : Sight). false ≡ fails_by (looked None asked_here x) wanted) h.cache.image.geometry asked_here.opened
-        asked_here.state.registers refl (λ e. refl) (λ s e. refl))
-
-    module _ (a : Area) (w : Window) (whole : is_readable (track_of slot) ≡ true) (comes : next.Found a
-        ≡ next_of_kind (track_or_none (track_of slot)) h.registers.position k)
-        (lies : Lies slot w (bytes_of (extent_of c) (track_of slot) a)) where
-      abbrev found_here : Open
-      found_here = record asked_here { opened = record asked_here.opened { area = Some a } }
-
-      abbrev track_here : Sighted
-      track_here = track_of (own_slot h)
-
-      area_is : area_bytes track_here found_here.opened found_here.state.registers ≡ slice_range slot w.start (w.start + w.len)
-      area_is = area_by action.Search track_here found_here.opened found_here.state.registers searches ∙ rw (← own) (sym lies.here)
-
-      long : length_of found_here wanted ≡ w.len
-      long = length_by action.Search h.cache.image.geometry track_here found_here.opened found_here.state.registers wanted searches
-          ∙ ap length (area_by action.Search track_here found_here.opened found_here.state.registers searches) ∙ rw (← own) lies.size
-
-      found_as : (b : Bool) → b ≡ ((w.len == length wanted) && ((close None found_here wanted).unit.0 == ending_status))
-          → b ≡ (holds h.cache.held (own_track h) && fails_by (look None asked_here) wanted)
-      found_as b e = rw (at_hand, sees (next.Found a) whole comes, searches, long) e
-
-      other_length : (w.len ≡ length wanted → ⊥) → false ≡ (holds h.cache.held (own_track h) && fails_by (look None asked_here) wanted)
-      other_length short = found_as false (rw (not_same w.len (length wanted) short) refl)
-
-      found_closes : (b : Bool) → is_satisfied (comparison c) (slice_range slot w.start (w.start + w.len)) wanted ≡ b
-          → closing h.cache.image.geometry track_here found_here.opened found_here.state.registers wanted
-          ≡ search_ends found_here.opened found_here.state.registers (nat_lt 0 (length wanted) && b) (length wanted == length
-          (slice_range slot w.start (w.start + w.len)))
-      found_closes b is = closing_by action.Search h.cache.image.geometry track_here found_here.opened found_here.state.registers wanted
-          searches ∙ rw (area_is, is) refl
-
-      satisfied : 0 < length wanted → is_satisfied (comparison c) (slice_range slot w.start (w.start + w.len)) wanted ≡ true
-          → false ≡ (holds h.cache.held (own_track h) && fails_by (look None asked_here) wanted)
-      satisfied some is = found_as false (rw (found_closes true is, some_bytes (length wanted) some) (sym (and-false
-          (w.len == length wanted))))
-
-      failed_here : w.len ≡ length wanted → is_satisfied (comparison c) (slice_range slot w.start (w.start + w.len)) wanted ≡ false
-          → true ≡ (holds h.cache.held (own_track h) && fails_by (look None asked_here) wanted)
-      failed_here e is = found_as true (rw (found_closes false is, and-false (nat_lt 0 (length wanted)), same w.len (length wanted) e) refl)
+  sees : (m : Mark) (multi_track : Bool) (x : NextArea) → is_readable (track_of slot) ≡ true
+      → x ≡ next_of_kind (track_or_none (track_of slot)) h.registers.position k
+      → (let o = asked_here m multi_track in
+      sight h.cache.image.geometry (track_of (own_slot h)) o.opened o.state.registers
+      ≡ sight_of h.cache.image.geometry o.opened o.state.registers x)
+  unfolding sight
+  sees m multi_track x whole is = rw (← own, aimed, searches, whole, ← is) refl
 
   pub tells_unread : is_readable (track_of slot) ≡ false → TellsSearch h c wanted false
-  tells_unread unread m multi_track = unread_here m multi_track unread
+  unfolding sight
+  tells_unread unread m multi_track = rw at_hand (rw (← own, aimed, searches, unread) refl)
 
   pub tells_passed : is_readable (track_of slot) ≡ true → next.IndexPassed
       ≡ next_of_kind (track_or_none (track_of slot)) h.registers.position k → TellsSearch h c wanted false
-  tells_passed whole is m multi_track = passed_here m multi_track whole is
+  tells_passed whole is m multi_track = (let o = asked_here m multi_track in rw (at_hand, sees m multi_track next.IndexPassed whole is)
+      (passing (λ (x : Sight). false ≡ fails_by (looked None o x) wanted) h.cache.image.geometry o.opened o.state.registers refl (λ e. refl)
+      (λ s e. refl)))
 
   module _ (a : Area) (w : Window) (whole : is_readable (track_of slot) ≡ true) (comes : next.Found a
       ≡ next_of_kind (track_or_none (track_of slot)) h.registers.position k)
       (lies : Lies slot w (bytes_of (extent_of c) (track_of slot) a)) where
+    abbrev found_here : Mark → Bool → Open
+    found_here m multi_track = (let o = asked_here m multi_track in record o { opened = record o.opened { area = Some a } })
+
+    abbrev track_here : Sighted
+    track_here = track_of (own_slot h)
+
+    area_is : (m : Mark) (multi_track : Bool) → (let o = found_here m multi_track in
+        area_bytes track_here o.opened o.state.registers ≡ slice_range slot w.start (w.start + w.len))
+    area_is m multi_track = (let o = found_here m multi_track in
+        area_by action.Search track_here o.opened o.state.registers searches ∙ rw (← own) (sym lies.here))
+
+    tells : (b : Bool) → ((m : Mark) (multi_track : Bool) → b
+        ≡ ((w.len == length wanted) && ((close None (found_here m multi_track) wanted).unit.0 == ending_status))) → TellsSearch h c wanted b
+    tells b e m multi_track =
+        let o = found_here m multi_track in
+        let long : length_of o wanted ≡ w.len =
+        length_by action.Search h.cache.image.geometry track_here o.opened o.state.registers wanted searches
+        ∙ ap length (area_by action.Search track_here o.opened o.state.registers searches) ∙ rw (← own) lies.size in
+        rw (at_hand, sees m multi_track (next.Found a) whole comes, searches, long) (e m multi_track)
+
+    found_closes : (m : Mark) (multi_track b : Bool)
+        → is_satisfied (comparison c) (slice_range slot w.start (w.start + w.len)) wanted ≡ b → (let o = found_here m multi_track in
+        closing h.cache.image.geometry track_here o.opened o.state.registers wanted ≡ search_ends o.opened o.state.registers
+        (nat_lt 0 (length wanted) && b) (length wanted == length (slice_range slot w.start (w.start + w.len))))
+    found_closes m multi_track b is = (let o = found_here m multi_track in
+        closing_by action.Search h.cache.image.geometry track_here o.opened o.state.registers wanted searches
+        ∙ rw (area_is m multi_track, is) refl)
+
     pub tells_length : (w.len ≡ length wanted → ⊥) → TellsSearch h c wanted false
-    tells_length short m multi_track = other_length m multi_track a w whole comes lies short
+    tells_length short = tells false (λ m multi_track. rw (ne_eqb w.len (length wanted) short) refl)
 
     pub tells_satisfied : 0 < length wanted → is_satisfied (comparison c) (slice_range slot w.start (w.start + w.len)) wanted ≡ true
         → TellsSearch h c wanted false
-    tells_satisfied some is m multi_track = satisfied m multi_track a w whole comes lies some is
+    tells_satisfied some is = tells false (λ m multi_track. rw (found_closes m multi_track true is, lt-ltb 0 (length wanted) some)
+        (sym (and-false (w.len == length wanted))))
 
     pub tells_failed : w.len ≡ length wanted → is_satisfied (comparison c) (slice_range slot w.start (w.start + w.len)) wanted ≡ false
         → TellsSearch h c wanted true
-    tells_failed e is m multi_track = failed_here m multi_track a w whole comes lies e is
+    tells_failed e is = tells true (λ m multi_track.
+        rw (found_closes m multi_track false is, and-false (nat_lt 0 (length wanted)), eq-eqb w.len (length wanted) e) refl)
 
 -- By the code.
 
@@ -401,14 +297,8 @@ tells_code h code wanted read k b decodes searched tells m = rw (begins read.com
     (action_of read.command) (aim read.command) k searched).0 (sym decodes)) (tells m read.multi_track)
 
 no_search : (c : Command) → None ≡ searched_by (action_of c) (aim c) → is_search (action_of c) ≡ false
-no_search command.SearchHomeAddressEqual e = absurd (cc e)
-no_search command.SearchIdEqual e = absurd (cc e)
-no_search command.SearchIdHigh e = absurd (cc e)
-no_search command.SearchIdEqualOrHigh e = absurd (cc e)
-no_search command.SearchKeyEqual e = absurd (cc e)
-no_search command.SearchKeyHigh e = absurd (cc e)
-no_search command.SearchKeyEqualOrHigh e = absurd (cc e)
-no_search _ e = refl
+no_search command.SearchIdEqual e = cc
+no_search _ e = cc
 
 look_other : (o : Open) (bytes : List ℕ) → is_search (action_of o.opened.command) ≡ false → fails_by (look None o) bytes ≡ false
 look_other o bytes e = sight_by (λ (x : Sight). fails_by (looked None o x) bytes
@@ -420,7 +310,6 @@ started_other : (c : Command) (multi_track : Bool) (area : Option Area) (s : Sta
     → fails_begun (begun None s (started c r (record { command = c; multi_track = multi_track; area = area }))) bytes ≡ false
 started_other command.NoOperation multi_track area s r bytes e = refl
 started_other command.Recalibrate multi_track area s r bytes e = refl
-started_other command.ReadIpl multi_track area s r bytes e = look_other _ bytes e
 started_other _ multi_track area s r bytes e = look_other _ bytes e
 
 other_begins : (read : CommandCode) (s : State) (bytes : List ℕ) (x : Option Sense) → is_search (action_of read.command) ≡ false
@@ -428,24 +317,15 @@ other_begins : (read : CommandCode) (s : State) (bytes : List ℕ) (x : Option S
 other_begins read s bytes (Some cause) e = refl
 other_begins read s bytes None e = started_other read.command read.multi_track _ s _ bytes e
 
-code_begins : (code : ℕ) (s : State) (bytes : List ℕ) (x : Option CommandCode) → decoded code ≡ x → ((read : CommandCode)
-    → x ≡ Some read → is_search (action_of read.command) ≡ false) → fails_begun (begin None code s) bytes ≡ false
-unfolding beginning
-code_begins code s bytes None is other = rw is refl
-code_begins code s bytes (Some read) is other = rw is (other_begins read s bytes (refusal read.command s.registers) (other read refl))
-
 pub tells_none : (h : HalfDone) (code : ℕ) (wanted : List ℕ) → None ≡ decoded code → TellsCode h code wanted false
-tells_none h code wanted none m = rw (code_begins code (idle_state h m) wanted None (sym none) (λ read e. absurd (cc e))) (sym (and-false
-    (holds h.cache.held (own_track h))))
-
-other_is : (read r : CommandCode) → Some read ≡ Some r → is_search (action_of read.command) ≡ false
-    → is_search (action_of r.command) ≡ false
-other_is read r e h = (let same : read ≡ r = cc e in subst (λ (q : CommandCode). is_search (action_of q.command) ≡ false) same h)
+unfolding beginning
+tells_none h code wanted none m = rw (← none) (sym (and-false (holds h.cache.held (own_track h))))
 
 pub tells_other : (h : HalfDone) (code : ℕ) (wanted : List ℕ) (read : CommandCode) → Some read ≡ decoded code
     → None ≡ searched_by (action_of read.command) (aim read.command) → TellsCode h code wanted false
-tells_other h code wanted read decodes other m = rw (code_begins code (idle_state h m) wanted (Some read) (sym decodes)
-    (λ r e. other_is read r e (no_search read.command other))) (sym (and-false (holds h.cache.held (own_track h))))
+unfolding beginning
+tells_other h code wanted read decodes other m = rw (← decodes) (rw (other_begins read (idle_state h m) wanted
+    (refusal read.command (idle_state h m).registers) (no_search read.command other)) (sym (and-false (holds h.cache.held (own_track h)))))
 
 -- behind the areas that have passed
 pub tells_behind : (h : HalfDone) (code : ℕ) (wanted : List ℕ) (read : CommandCode) (k : Kind) (b : Bool) (n : ℕ) (p : Position)
@@ -464,32 +344,28 @@ identifier code (inr e) = (true, rw e refl)
 
 -- Where the track is written it is at hand.
 
-written_at_hand : (h : HalfDone) (m : Mark) → Stands (parts_of h m Idle) → is_written_by m ≡ true → holds h.cache.held (own_track h) ≡ true
-written_at_hand h m stands marked =
-    let changed : h.cache.changed ≡ true = stands.marked ∙ rw marked refl in
-    let held : h.cache.held ≡ Some (own_track h) = stands.anchored changed in
-    rw held (same (own_track h) (own_track h) refl)
-
 -- an idle drive of these parts, which stand together
 abbrev pub Stood : HalfDone → Mark → DriveStage → DriveState → Type 0
 Stood h m s old = (s ≡ Idle) × (state_of (parts_of h m s) ≡ old) × Stands (parts_of h m s)
+
+written_at_hand : (h : HalfDone) (m : Mark) (s : DriveStage) (old : DriveState) → Stood h m s old → is_written old.state ≡ true
+    → holds h.cache.held (own_track h) ≡ true
+written_at_hand h m s old (idle, is, stands) written =
+    let x : Stands (parts_of h m Idle) = rw idle at stands in
+    rw (x.anchored (x.marked ∙ rw (rw (← is) at written) refl)) (eq-eqb (own_track h) (own_track h) refl)
 
 -- none has passed
 pub written_none : (h : HalfDone) (m : Mark) (s : DriveStage) (code : ℕ) (wanted : List ℕ) (n most : ℕ) (p : Position) (old : DriveState)
     → Stood h m s old → (n ≡ 0) × (0 < most) × (n < most → TellsCode (turned n p h) code wanted false)
     → is_written old.state ≡ true → fails_at_once code wanted old ≡ false
 written_none h m s code wanted (suc n) most p old stood (none, few, tells) written = absurd (cc none)
-written_none h m s code wanted zero most p old (idle, is, stands) (none, few, tells) written =
-    let marked : is_written_by m ≡ true = rw (← is) at written in
-    let there = written_at_hand h m (rw idle at stands) marked in
-    rw (← is, idle) (sym (rw there at (tells few m)))
+written_none h m s code wanted zero most p old stood (none, few, tells) written =
+    rw (← stood.1, stood.0) (sym (rw (written_at_hand h m s old stood written) at (tells few m)))
 
 -- some have passed
 pub written_some : (h : HalfDone) (m : Mark) (s : DriveStage) (code : ℕ) (wanted : List ℕ) (n : ℕ) (p : Position) (old : DriveState)
     → Stood h m s old → (n ≡ 0 → ⊥) → TellsCode (turned n p h) code wanted false
     → is_written old.state ≡ true → fails_at_once code wanted (state_of (parts_of (turned_to p h) m s)) ≡ false
 written_some h m s code wanted zero p old stood some tells written = absurd (some refl)
-written_some h m s code wanted (suc n) p old (idle, is, stands) some tells written =
-    let marked : is_written_by m ≡ true = rw (← is) at written in
-    let there = written_at_hand h m (rw idle at stands) marked in
-    rw idle (sym (rw there at (tells m)))
+written_some h m s code wanted (suc n) p old stood some tells written =
+    rw stood.0 (sym (rw (written_at_hand h m s old stood written) at (tells m)))

@@ -32,8 +32,7 @@ number_below g r at = below g.cylinders (heads_of g.model) r.cylinder r.head at.
         rw (add-one, suc-mul) refl in omega (arith, le, e, b))
 
 pub number_there : (d : Parts) → Stands d → own_track d.job < length d.job.cache.slots
-number_there d x =
-    rw x.volume.count (number_below d.job.cache.image.geometry d.job.registers x.arm)
+number_there d x = rw x.volume.count (number_below d.job.cache.image.geometry d.job.registers x.arm)
 
 pub idle_stage : (s : DriveStage) (h : HalfDone) → is_idle (work_of s h) ≡ true → s ≡ Idle
 idle_stage Idle h e = refl
@@ -45,17 +44,13 @@ no_credit c r n e = rw e tt
 pub at_zero : (c : CacheState) (r : Registers) → IsVolume c → IsAtTrack c.image.geometry (moved_to r 0 0)
 at_zero c r v = (let g = v.geometry in record {
   cylinder = omega (arith, g.cylinders);
-  head =
-      elim c.image.geometry.model as (λ m. 0 < heads_of m) [ D2311 ↦ omega arith | D2314 ↦ omega arith ];
+  head = elim c.image.geometry.model as (λ m. 0 < heads_of m) [ D2311 ↦ omega arith | D2314 ↦ omega arith ];
 })
 
 -- The slots.
 
-volume_saved_by : (c : CacheState) (b : Bool) → c.changed ≡ b → IsVolume c → IsVolume (record c {
-  image = saved c.image c.slots b;
-  changed =
-      false;
-})
+volume_saved_by : (c : CacheState) (b : Bool) → c.changed ≡ b → IsVolume c → IsVolume
+    (record c { image = saved c.image c.slots b; changed = false })
 volume_saved_by c true e v = record { geometry = v.geometry; count = v.count; sizes = v.sizes; clean = λ _. refl }
 volume_saved_by c false e v = record { geometry = v.geometry; count = v.count; sizes = v.sizes; clean = λ _. v.clean e }
 

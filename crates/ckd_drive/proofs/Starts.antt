@@ -69,17 +69,13 @@ decoded_well : (c : CacheState) (n : ℕ) (r : Registers) (k : Option CommandCod
 decoded_well c n r None is = record { cylinder = refl; head = refl; credit = refl }
 decoded_well c n r (Some k) is = allowed_well c n r k (refusal k.command r) is refl
 
-pub begins_well : (c : CacheState) (n : ℕ) (code : ℕ) (r : Registers) → CreditIs r.credit c n → BeginsWell c n r (beginning code r)
-unfolding beginning
-begins_well c n code r is = decoded_well c n r (decoded code) is
-
 -- what a command code leads to, where nothing was begun
 pub well_begun : (d : Parts) (now : DriveState) (code : ℕ) → Stands d → state_of d ≡ now → is_idle now.work ≡ true
     → (d.stage ≡ stage.Idle) × BeginsWell d.job.cache (own_track d.job) d.job.registers (beginning code d.job.registers)
+unfolding beginning
 well_begun d now code x is idle =
     let at_rest : d.stage ≡ stage.Idle = idle_stage d.stage d.job (ap (λ (y : DriveState). is_idle y.work) is ∙ idle) in
-    let credit : CreditIs d.job.registers.credit d.job.cache (own_track d.job) = rw at_rest at x.work in
-    (at_rest, begins_well d.job.cache (own_track d.job) code d.job.registers credit)
+    (at_rest, decoded_well d.job.cache (own_track d.job) d.job.registers (decoded code) (rw at_rest at x.work))
 
 -- An idle drive begins a command that goes to cylinder 0.
 module _ (old : HalfDone) (was : Mark) (x : Stands (parts_of old was stage.Idle)) (b : Beginning)

@@ -67,11 +67,7 @@ search_absorbs half more slot w so_far now may at slot_is now_is =
     absorbs_plain half more (Search (record { start = w.start + length more; len = w.len - length more }) now) x (rw at refl) refl
     (rw at refl) (rw at refl) (
       record { is_search = h.is_search; at_hand = h.at_hand; lies = m.lies; room = m.room; begins = m.begins; compared = compared },
-      record {
-        again = placed.1.again;
-        len = length_by action.Search half.cache.image.geometry (track_of (own_slot half)) half.opened
-            half.registers (half.passed ++ more) h.is_search ∙ m.len;
-      },
+      record { again = placed.1.again; len = length_by action.Search _ _ half.opened half.registers _ h.is_search ∙ m.len },
     )
     m.small
 

@@ -19,10 +19,5 @@ returns g c =
     let x = has_begun (parts_in c.self.inside) (parts_held s.new.self s.new.mark s.result) c.args.self.now c.args.code c.self.view_is
     c.requires s.ensures in
     let answer = c.begun.ensures ∙ x.answer in
-    record {
-      state = x.comes.state;
-      answer = answer;
-      calls = x.comes.calls;
-      reported =
-          begin_reports c.args.self.now _ c.args.code _ x.comes.state answer x.comes.calls;
-    }
+    let k = x.comes in
+    record { state = k.state; answer = answer; calls = k.calls; reported = begin_reports _ _ c.args.code _ k.state answer k.calls }

@@ -18,7 +18,6 @@ returns g c =
     record {
       state = x.state;
       answer = c.looked.ensures (record (half_done l.new.self) { passed = new.result.bytes }) refl;
-      calls =
-          x.calls;
+      calls = x.calls;
       reported = look_reports c.args.self.now _ x.state x.calls x.at_hand;
     }

@@ -1,4 +1,4 @@
-use Rattle.std.proofs.Common.{◌≡◌, ◌∙◌, ap, refl, ◌<◌, [], false, None, length, arith, rules}
+use Rattle.std.proofs.Common.{◌≡◌, ◌∙◌, ap, refl, ◌<◌, [], false, length, arith, rules}
 use Rattle.ckd_command.specs.declared.registers.Mark.{Mark}
 use Rattle.ckd_command.specs.declared.registers.Mark.TheVariants.{Lost}
 use Rattle.ckd_drive.specs.declared.transfer.Transfer.{Transfer}
@@ -40,9 +40,8 @@ settled : (d : Parts) (came : HalfDone) (now : DriveState) → Stands d → stat
 settled d came now x is e save =
     let plain = unwritten d.stage d.job x.work (ap (λ (y : DriveState). passed_of y.work) is ∙ e) in
     let after = state_of (parts_of (record d.job { cache = after_save d.job.cache }) (settled_mark d.mark) Idle) in
-    let none : fault_met (state_of d) after ≡ None = fault_none (state_of d) after (failures_saved d.job.cache) in
     rw (save, ← is) (record {
-      state = rw (none, plain.1, geometry_saved d.job.cache) refl;
+      state = rw (fault_none (state_of d) after (failures_saved d.job.cache), plain.1, geometry_saved d.job.cache) refl;
       calls = calls_of_save _ _ d.job.cache (state_of d) after refl refl (changed_is d x plain.0);
     })
 
@@ -50,11 +49,8 @@ unsettled : (d : Parts) (came : HalfDone) (m : Mark) (now : DriveState) → Stan
     → Loses d.job came m → Settled now (parts_of came m Idle)
 unsettled d came m now x is e l =
     let plain = unwritten d.stage d.job x.work (ap (λ (y : DriveState). passed_of y.work) is ∙ e) in
-    let after = state_of (parts_of (record d.job {
-      cache = after_failed_save d.job.cache l.left;
-      registers =
-          lost_registers d.job.registers;
-    }) Lost Idle) in
+    let after = state_of (parts_of
+    (record d.job { cache = after_failed_save d.job.cache l.left; registers = lost_registers d.job.registers }) Lost Idle) in
     let s = save_lost d d.job came m after x plain.0 refl l refl in
     rw (← is, l.job, l.mark_is) (record {
       state = rw (s.fault, plain.1, s.written, s.held, s.whole) refl;
@@ -72,19 +68,11 @@ returns g c =
       saved = rw k.saves (search rules);
       counted = rw k.saves (search rules);
       calls = s.calls;
-      reported =
-          settle_reports c.args.self.now _ s.state s.calls;
+      reported = settle_reports c.args.self.now _ s.state s.calls;
     }
 
 pub returns-in_err-save : goal.returns-in_err-save
 returns-in_err-save g c =
     let s = unsettled (parts_in c.self.inside) (half_done c.save.new.self) c.save.new.mark c.args.self.now c.self.invariant c.self.view_is
     c.requires c.in_err-save.ensures.loses in
-    record {
-      state = s.state;
-      saved = search rules;
-      counted = search rules;
-      calls = s.calls;
-      reported =
-          settle_reports c.args.self.now _ s.state s.calls;
-    }
+    record { state = s.state; saved = search rules; counted = search rules; calls = s.calls; reported = settle_reports _ _ s.state s.calls }

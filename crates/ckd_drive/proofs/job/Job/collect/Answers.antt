@@ -37,8 +37,5 @@ pub returns-in-Some : goal.returns-in-Some
 returns-in-Some g c =
     let k = format_goes c.in-Count.count (more g (goal.at.returns-in-Some g c).After-whole_field) (search rules) (sym c.whole_field.ensures
     ∙ c.in-Count.is) in
-    rw c.place_for.ensures.stays record {
-      absorbs = due_absorbs c.in-Some.number c.in-Some.place k
-          (rw c.in-Some.is at c.place_for.ensures.places);
-      stays = refl;
-    }
+    rw c.place_for.ensures.stays
+    record { absorbs = due_absorbs c.in-Some.number c.in-Some.place k (rw c.in-Some.is at c.place_for.ensures.places); stays = refl }

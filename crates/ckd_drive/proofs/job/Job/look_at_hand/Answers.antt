@@ -12,8 +12,7 @@ use Rattle.ckd_drive.proofs.job.Job.look_at_hand.Goals as goal
 
 -- the slot in which the area was found is in the buffer
 found : (g : Over) (c : After-buffer g) → FoundAgain (half_done c.args.self.now) (record c.args.self.now.opened {
-  area =
-      Some c.in-Found.area;
+  area = Some c.in-Found.area;
 }) c.buffer.result.now
 found g c =
     let old = half_done c.args.self.now in
@@ -23,13 +22,11 @@ found g c =
 pub place_on-requires : goal.place_on-requires
 place_on-requires g c =
     let x = found g (goal.at.place_on-requires g c).After-buffer in
-    let there = rw c.in-Found.is at c.look_at.ensures.there in
     record {
       command = search rules;
       aim = search rules;
       readable = rw (x.slot_is, c.look_at.ensures.stays) x.whole;
-      there =
-          rw (x.slot_is, c.look_at.ensures.stays) there.1;
+      there = rw (x.slot_is, c.look_at.ensures.stays) (rw c.in-Found.is at c.look_at.ensures.there).1;
     }
 
 pub returns-in-Found : goal.returns-in-Found
@@ -39,8 +36,7 @@ returns-in-Found g c =
     let p = c.place_on in
     let placed = rw c.look_at.ensures.stays at (p.ensures.first old.registers) in
     let ready = rw c.look_at.ensures.stays at p.ensures.ready in
-    let stays = rw c.in-Found.is at c.look_at.ensures.registers in
-    rw (c.look_at.ensures.stays, stays)
+    rw (c.look_at.ensures.stays, (rw c.in-Found.is at c.look_at.ensures.registers))
     record {
       looks = found_looks old c.args.mark.now c.requires.stands _ p.new.progress p.result (rw x.slot_is at placed)
           (λ _. record { held = c.requires.held; whole = x.whole }) x.again x.first ready p.ensures.passing;
@@ -78,9 +74,8 @@ returns-in-Ok g c =
 
 pub returns-in-Err : goal.returns-in-Err
 returns-in-Err g c =
-    let stays = rw c.in-NextHead.is at c.look_at.ensures.registers in
     let lost : Loses (half_done c.args.self.now) (half_done c.leave.new.self) c.leave.new.mark =
-    rw (c.look_at.ensures.stays, stays) at c.in-Err.ensures.loses in
+    rw (c.look_at.ensures.stays, (rw c.in-NextHead.is at c.look_at.ensures.registers)) at c.in-Err.ensures.loses in
     record {
       looks = lost_looks _ c.args.mark.now c.requires.stands _ _ _ (sym (rw c.in-NextHead.is at c.look_at.ensures.seen_is)) lost;
       loads = ap (λ (h : HalfDone). h.cache.image.loads) lost.job;

@@ -1,5 +1,3 @@
-use Rattle.std.proofs.Common.{◌≡◌}
-use Rattle.ckd_drive.specs.Invariant.{own_track}
 use Rattle.ckd_drive.specs.Jobs.{half_done, parts_held}
 use Rattle.ckd_drive.proofs.job.Job.look_for_next.Goals as goal
 use Rattle.ckd_drive.proofs.Looks.{held_looks, unloaded_looks}
@@ -7,14 +5,12 @@ use Rattle.ckd_drive.proofs.Looks.{held_looks, unloaded_looks}
 pub returns-in-Ok : goal.returns-in-Ok
 returns-in-Ok g c =
     let old = half_done c.args.self.now in
-    let track : c.track_at-track.result ≡ own_track old = rw c.geometry.ensures.geometry at c.track_at-track.ensures.number in
     let h = c.look_at_hand in
     held_looks old c.args.mark.now c.requires.stands c.hold.new.self c.args.kind (parts_held h.new.self h.new.mark h.result) c.requires.aim
-    (rw track at c.in-Ok.ensures.ok) h.ensures.loads h.ensures.looks
+    (rw (c.track_at-track.ensures.number, c.geometry.ensures.geometry) at c.in-Ok.ensures.ok) h.ensures.loads h.ensures.looks
 
 pub returns-in-Err : goal.returns-in-Err
 returns-in-Err g c =
     let old = half_done c.args.self.now in
-    let track : c.track_at-track.result ≡ own_track old = rw c.geometry.ensures.geometry at c.track_at-track.ensures.number in
     unloaded_looks old c.args.mark.now c.requires.stands c.hold.new.self c.add_cause.new.registers c.args.kind c.requires.aim
-    (rw track at c.in-Err.ensures.fails) c.in-Err.ensures.err c.add_cause.ensures
+    (rw (c.track_at-track.ensures.number, c.geometry.ensures.geometry) at c.in-Err.ensures.fails) c.in-Err.ensures.err c.add_cause.ensures

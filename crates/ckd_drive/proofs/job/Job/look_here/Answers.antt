@@ -1,4 +1,4 @@
-use Rattle.std.proofs.Common.{◌≡◌, ◌∙◌, sym, Some}
+use Rattle.std.proofs.Common.{◌≡◌, ◌∙◌, sym}
 use Rattle.ckd_command.specs.declared.tables.Aim.TheVariants.{NoArea, Credited}
 use Rattle.ckd_command.specs.Tables.{aim}
 use Rattle.ckd_drive.specs.Invariant.{own_track, own_slot}
@@ -23,8 +23,7 @@ returns-in-Credited g c =
     let x = c.place_on in
     let aimed : aim old.opened.command ≡ Credited = rw c.requires.command at (sym c.aim_of.ensures ∙ c.in-Credited.is) in
     let credit = c.requires.stands.work.credit in
-    let held : old.cache.held ≡ Some (own_track old) = (rw aimed at credit).held in
-    let slot = slot_is old.cache (own_track old) c.buffer.result.now held c.buffer.ensures.slot in
+    let slot = slot_is old.cache (own_track old) c.buffer.result.now ((rw aimed at credit).held) c.buffer.ensures.slot in
     found_looks old c.args.mark.now c.requires.stands old.opened x.new.progress x.result (rw slot at (x.ensures.first old.registers))
     (credit_hand old.cache (own_track old) old.opened aimed credit)
     (sight_credited _ _ old.opened old.registers aimed) (sight_credited _ _ old.opened old.registers aimed) x.ensures.ready

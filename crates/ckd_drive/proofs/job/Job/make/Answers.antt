@@ -13,8 +13,5 @@ returns-clause-takes g c =
     let due = c.in-Due in
     let k = made_absorbs (half_done c.args.self.now) c.args.bytes.now due.place due.number due.count c.requires.works due.is c.requires.room
     in
-    rw (c.of-self.ensures, c.bytes.ensures, c.buffer.ensures.slot, c.behind.ensures, c.format.ensures) record {
-      absorbs = k.absorbs;
-      stays =
-          refl;
-    }
+    rw (c.of-self.ensures, c.bytes.ensures, c.buffer.ensures.slot, c.behind.ensures, c.format.ensures)
+    record { absorbs = k.absorbs; stays = refl }

@@ -1,6 +1,5 @@
-use Rattle.std.proofs.Common.{◌≡◌, arith, sym}
+use Rattle.std.proofs.Common.{arith, sym}
 use Rattle.ckd_position.specs.declared.areas.Position.TheVariants.{At}
-use Rattle.ckd_drive.specs.Invariant.{own_track}
 use Rattle.ckd_drive.specs.Jobs.{half_done, IsUnlike}
 use Rattle.ckd_drive.specs.Searches.{turned_to}
 use Rattle.ckd_drive.proofs.Searches.{one_turn_more, tells_unread}
@@ -9,9 +8,7 @@ use Rattle.ckd_drive.proofs.job.Job.pass_on.Goals as goal
 pub returns-then-not-is_readable-clause-tells : goal.returns-then-not-is_readable-clause-tells
 returns-then-not-is_readable-clause-tells g c = λ some few.
     let a = c.args in
-    let track : c.track_at-track.result ≡ own_track (half_done a.self.now) =
-    rw c.geometry-geometry.ensures.geometry at c.track_at-track.ensures.number in
-    let at = rw track at c.in-Some.ensures in
+    let at = rw (c.track_at-track.ensures.number, c.geometry-geometry.ensures.geometry) at c.in-Some.ensures in
     tells_unread (turned_to a.self.now.registers.position (half_done a.self.now)) a.sought.command a.sought.kind a.wanted.now
     c.in-Some.buffer.now at c.requires.aim c.requires.search (sym c.if-not-is_readable.ensures)
 

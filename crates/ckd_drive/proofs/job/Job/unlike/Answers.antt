@@ -1,4 +1,4 @@
-use Rattle.std.proofs.Common.{◌∙◌, sym, rules}
+use Rattle.std.proofs.Common.{◌∙◌, sym}
 use Rattle.ckd_drive.specs.Jobs.{half_done}
 use Rattle.ckd_drive.specs.Searches.{turned_to}
 use Rattle.ckd_drive.proofs.Searches.{is_unlike, tells_failed, tells_length, tells_passed, tells_satisfied}

@@ -1,5 +1,4 @@
-use Rattle.std.proofs.Common.{◌≡◌, rules, sym}
-use Rattle.ckd_drive.specs.Invariant.{own_track}
+use Rattle.std.proofs.Common.{rules, sym}
 use Rattle.ckd_drive.specs.Jobs.{half_done}
 use Rattle.ckd_drive.proofs.Wholes.{Lent, gives_whole, lends_unread, lends_next}
 use Rattle.ckd_drive.proofs.job.Job.whole_of.Given.{Over}
@@ -9,13 +8,10 @@ use Rattle.ckd_drive.proofs.job.Job.whole_of.Goals as goal
 -- the track is at hand, and its slot is in the buffer
 lent : (g : Over) (c : After-is_readable g) → Lent (half_done c.args.self.now) c.args.kind c.in_ok-buffer.buffer.now
 lent g c =
-    let track : c.track_at-track.result ≡ own_track (half_done c.args.self.now) =
-    rw c.geometry-geometry.ensures.geometry at c.track_at-track.ensures.number in
     record {
-      at_hand = rw track at c.in_ok-buffer.ensures;
+      at_hand = rw (c.track_at-track.ensures.number, c.geometry-geometry.ensures.geometry) at c.in_ok-buffer.ensures;
       reads = rw c.requires.command at c.requires.reads;
-      aimed =
-          rw c.requires.command at c.requires.aim;
+      aimed = rw c.requires.command at c.requires.aim;
     }
 
 -- the track is not readable
