@@ -1,24 +1,23 @@
 -- A channel that becomes what one was between two programs.
-use Rattle.std.proofs.Common.{◌≡◌, ◌∙◌, ap, refl, sym, subst, ℕ, ◌==◌, Bool, true, List, Some, None}
+use Rattle.std.proofs.Common.{◌≡◌, ◌∙◌, ap, refl, sym, subst, ℕ, Bool, true, List, Some, None}
 use Rattle.std.proofs.lemmas.Bool.{and_parts, eqb-true}
-use Rattle.std.specs.Prelude.{find, option_map, position, slice_get, slice_set}
+use Rattle.std.specs.Prelude.{option_map, position, slice_get, slice_set}
 use Rattle.ckd_drive.specs.Work.{has_track}
 use Rattle.s360_program.specs.Advances.{Rests}
 use Rattle.s360_words.specs.declared.words.Csw.{Csw}
-use Rattle.s360_laws.specs.Machine.{Device, Machine, device_at}
+use Rattle.s360_laws.specs.Machine.{Machine, device_at}
 use Rattle.s360_laws.specs.Soundness.{AreDistinct, arm_owes, device_owes}
 use Rattle.s360_laws.specs.declared.arm.Arm.{Arm}
 use Rattle.s360_channel.specs.Channel.{ChannelState, Shows, StandsFor}
 use Rattle.attached_drives.specs.Drives.{AttachedState, is_at}
 use Rattle.attached_drives.specs.DriveCalls.{DriveIs, MayRestore, RestoresAt}
 use Rattle.s360_channel.specs.Packs.{IsFree}
-use Rattle.s360_channel.specs.Restores.{RestoresDrive, as_saved, has_saved_track}
+use Rattle.s360_channel.specs.Restores.{RestoresDrive, as_saved, has_saved_track, is_available, is_owed, with_pending, with_saved}
 use Rattle.attached_drives.specs.Saved.{attached_as_saved}
-use Rattle.s360_channel.specs.Restores.{is_available, is_owed, with_pending, with_saved}
 use Rattle.attached_drives.specs.declared.drives_saved.SavedDrive.{SavedDrive}
 use Rattle.s360_channel.specs.declared.subchannel.Subchannel.TheVariants.{Idle, Pending}
 use Rattle.s360_channel.proofs.Removing.{attached, device_there, is_free, rests_there, stands_changed}
-use Rattle.attached_drives.proofs.Places.{arm_there, devices, found_at, found_by, inside, none_found}
+use Rattle.attached_drives.proofs.Places.{arm_there, found_at, found_by, inside, none_found}
 
 -- A drive that was free is as it was saved.
 
@@ -38,9 +37,7 @@ module _ (c : ChannelState) (m : Machine) (s : StandsFor c m) (device place : �
       → Some b ≡ option_map (λ (u : AttachedState). has_track u.drive.state.volume.geometry saved.cylinder saved.head)
       (slice_get c.drives place)
       → has_saved_track device saved m ≡ Some b
-  has_is b h = ap (option_map (λ (d : Device). has_track d.drive.volume.geometry saved.cylinder saved.head))
-      (device_there c m s device place f.attached (attached c m s device place f) f.runs)
-      ∙ sym (h ∙ ap (option_map (λ (u : AttachedState). has_track u.drive.state.volume.geometry saved.cylinder saved.head)) f.is_there)
+  has_is b h = rw (device_there c m s device place f.attached (attached c m s device place f) f.runs) (sym (rw f.is_there at h))
 
   pub may_restore : Some true ≡ option_map (λ (u : AttachedState). has_track u.drive.state.volume.geometry saved.cylinder saved.head)
       (slice_get c.drives place)
@@ -48,19 +45,14 @@ module _ (c : ChannelState) (m : Machine) (s : StandsFor c m) (device place : �
   may_restore h = record {
     attached = f.attached;
     is_there = f.is_there;
-    holds = (
-      rests,
-      sym (inside true _ (h ∙ ap (option_map (λ (u : AttachedState). has_track u.drive.state.volume.geometry saved.cylinder
-          saved.head)) f.is_there)),
-    );
+    holds = (rests, sym (inside true _ (rw f.is_there at h)));
   }
 
   pub restores : (drives : List AttachedState) → has_saved_track device saved m ≡ Some true → RestoresAt place saved c.drives drives
       → RestoresDrive device saved m c (record c { drives = drives })
   restores drives has r =
       let same : r.attached ≡ f.attached = inside r.attached f.attached (sym r.was ∙ f.is_there) in
-      let placed : drives ≡ slice_set c.drives place this =
-      r.becomes ∙ ap (λ u. slice_set c.drives place (attached_as_saved saved u)) same in
+      let placed : drives ≡ slice_set c.drives place this = r.becomes ∙ rw same refl in
       record {
         free = is_free c m s device place f;
         has_its_track = has;
@@ -100,13 +92,8 @@ owes_at c m device place arm s idle h e =
     let shown = (subst (Shows c m) idle s.shows).0 in
     let f = found_by device c.drives place h in
     let distinct = subst (λ (m : Machine). AreDistinct m.devices) shown s.sound.0 in
-    ap (λ (m : Machine). device_owes (device_at m device)) shown
-    ∙ (ap (λ n. device_owes (find (λ d. d.device == n) (devices c.drives))) (sym f.same_device)
-    ∙ (ap device_owes (found_at c.drives place f.attached distinct f.is_there)
-    ∙ ap arm_owes (arm_there c.drives place f.attached arm f.is_there e)))
+    rw (shown, ← f.same_device, found_at c.drives place f.attached distinct f.is_there, arm_there c.drives place _ arm f.is_there e) refl
 
 pub owes_none : (c : ChannelState) (m : Machine) (device : ℕ) → StandsFor c m → c.subchannel ≡ Idle
     → position (is_at device) c.drives ≡ None → device_owes (device_at m device) ≡ 0
-owes_none c m device s idle h =
-    ap (λ (m : Machine). device_owes (device_at m device)) (subst (Shows c m) idle s.shows).0
-    ∙ ap device_owes (none_found device c.drives h)
+owes_none c m device s idle h = rw ((subst (Shows c m) idle s.shows).0, none_found device c.drives h) refl

@@ -1,6 +1,6 @@
 -- From what a channel shows after a call to what the call does: input/output instructions, arms that arrive, interruptions.
-use Rattle.std.proofs.Common.{◌≡◌, ℕ, ◌≤◌, ◌/◌, ◌%◌, refl, sym, ap, subst, ◌∙◌, cond, ◌==◌, List, [], ◌∷◌, map, length, Option, Some, None}
-use Rattle.std.proofs.Common.{true, false, ◌+◌, ◌*◌, ◌<◌, Bool, ◌++◌, append_assoc}
+use Rattle.std.proofs.Common.{◌≡◌, ℕ, ◌/◌, ◌%◌, refl, sym, ap, subst, ◌∙◌, cond, ◌==◌, List, [], ◌∷◌, map, length, Option, Some, None}
+use Rattle.std.proofs.Common.{arith, true, false, ◌+◌, ◌*◌, ◌<◌, Bool, ◌++◌, append_assoc}
 use Rattle.std.proofs.lemmas.Bool.{eq-eqb}
 use Rattle.std.proofs.lemmas.List.{length-map}
 use Rattle.std.proofs.lemmas.Option.{slice_get_within}
@@ -9,9 +9,9 @@ use Rattle.s360_words.specs.declared.words.Csw.{Csw}
 use Rattle.s360_words.specs.Storage.{Storage, changed, csw_stored}
 use Rattle.s360_laws.specs.Places.{Place}
 use Rattle.s360_laws.specs.Scripts.{TakesInterruption, Outside}
-use Rattle.s360_laws.specs.Units.{standing_in, phase_past, StandsAt, ProgramPhase, Between, Looking, Moving}
+use Rattle.s360_laws.specs.Units.{standing_in, phase_past, ProgramPhase, Between, Looking, Moving}
 use Rattle.s360_program.specs.Advances.{Rests}
-use Rattle.s360_program.specs.Laws.{StandsAtRun, StandsAfterChange, StandsAfterInterruption}
+use Rattle.s360_program.specs.Laws.{StandsAfterChange, StandsAfterInterruption}
 use Rattle.s360_program.specs.Stands.{RunningState, phase_in}
 use Rattle.s360_laws.specs.declared.arm.Arm.{Arm}
 use Rattle.s360_laws.specs.declared.arm.Arm.TheVariants.{InMotion, Arrived}
@@ -30,7 +30,7 @@ use Rattle.attached_drives.specs.Drives.{AttachedState, device_of, is_at}
 use Rattle.s360_channel.specs.declared.subchannel.Subchannel.{Subchannel}
 use Rattle.s360_channel.specs.declared.subchannel.Subchannel.TheVariants.{Idle, Working, Pending}
 use Rattle.attached_drives.specs.DriveCalls.{DriveIs, ArmChanges}
-use Rattle.s360_channel.specs.Nexts.{ShowsNext, of_parts, idle_machine, DoesAt, DoesIdle, DoesOn, TakesProgram, storage_told}
+use Rattle.s360_channel.specs.Nexts.{ShowsNext, of_parts, idle_machine, DoesAt, DoesIdle, DoesOn, TakesProgram}
 use Rattle.s360_channel.proofs.Changing.{seen_by, distinct_drives, SeenBy, device_seen, shows_armed}
 use Rattle.attached_drives.proofs.Places.{FoundAt, found_by, none_found, rests_at, arm_there, inside, map_same}
 use Rattle.s360_channel.proofs.Quiet.{images}
@@ -45,8 +45,13 @@ quiet e m answer old new st number same h = record {
   answers = h.answers;
   stands = record {
     number = subst (λ n. n < 7) (sym number) st.number;
-    few = subst (λ n. n ≤ 8) (sym (length-map old.drives (λ (u : AttachedState). u.drive.image)) ∙ ap length (sym same)
-        ∙ length-map new.drives (λ (u : AttachedState). u.drive.image)) st.few;
+    few = omega (
+      arith,
+      st.few,
+      ap length same,
+      length-map old.drives (λ (u : AttachedState). u.drive.image),
+      length-map new.drives (λ (u : AttachedState). u.drive.image),
+    );
     shows = h.shows;
     sound = stays_sound m ((e, None) ∷ []) st.sound;
   };
@@ -66,10 +71,10 @@ module _ (a number : ℕ) (s : Storage) (sub : Subchannel) (us : List AttachedSt
   channel_there = (seen_by (of_parts number s sub us) m sub st.shows).channel
 
   pub off_channel : (r : Answer × Machine) → (a / 256 ≡ number → ⊥) → on_channel a m r ≡ (WithCode Three, m)
-  off_channel r h = ap (λ b. cond b r (WithCode Three, m)) (ap (λ n. a / 256 == n) channel_there ∙ different (a / 256) number h)
+  off_channel r h = rw (channel_there, different (a / 256) number h) refl
 
   pub at_channel : (r : Answer × Machine) → a / 256 ≡ number → on_channel a m r ≡ r
-  at_channel r h = ap (λ b. cond b r (WithCode Three, m)) (ap (λ n. a / 256 == n) channel_there ∙ eq-eqb (a / 256) number h)
+  at_channel r h = rw (channel_there, eq-eqb (a / 256) number h) refl
 
   -- Start I/O at an address of another channel,
   pub start_other : (a / 256 ≡ number → ⊥) → DoesQuietly (Sio a) m (WithCode Three) (of_parts number s sub us)
@@ -103,8 +108,7 @@ module _ (a number : ℕ) (s : Storage) (us : List AttachedState) (m : Machine) 
 
   start_there : (x : Option machine.Device) → find (λ d. d.device == a % 256) (map device_of us) ≡ x
       → react (Sio a) None m ≡ start_device (a % 256) m x
-  start_there x h = at_channel a number s Idle us m st (start_io (a % 256) m m.subchannel) on ∙ ap (start_io (a % 256) m) idle_there
-      ∙ ap (start_device (a % 256) m) (devices_there ∙ h)
+  start_there x h = at_channel a number s Idle us m st (start_io (a % 256) m m.subchannel) on ∙ rw (idle_there, devices_there, h) refl
 
   pub start_none : position (is_at (a % 256)) us ≡ None → DoesQuietly (Sio a) m (WithCode Three) (of_parts number s Idle us)
   start_none h = unchanged (Sio a) m (WithCode Three) number s Idle us st (start_there None (none_found (a % 256) us h))
@@ -116,29 +120,22 @@ module _ (a number : ℕ) (s : Storage) (us : List AttachedState) (m : Machine) 
   start_at place answer s' sub' us' h does same =
       let f : FoundAt (a % 256) us place = found_by (a % 256) us place h in
       quiet (Sio a) m answer (of_parts number s Idle us) (of_parts number s' sub' us') st refl same
-      (subst (λ r. ShowsNext r answer (of_parts number s' sub' us'))
-      (ap (λ device. start_device device (idle_machine number s us) (Some (device_of f.attached))) f.same_device
-      ∙ ap (λ m. start_device (a % 256) m (Some (device_of f.attached))) (sym st.shows.0)
-      ∙ sym (start_there (Some (device_of f.attached)) f.found))
-      (does f.attached f.is_there number st.shows.1 distinct))
+      (rw (start_there (Some (device_of f.attached)) f.found, st.shows.0)
+      (subst (λ device. ShowsNext (start_device device (idle_machine number s us) (Some (device_of f.attached))) answer
+      (of_parts number s' sub' us')) f.same_device (does f.attached f.is_there number st.shows.1 distinct)))
 
   pub test_at : (answer : Answer) (s' : Storage) (us' : List AttachedState)
       → DoesIdle (λ m. test_device (a % 256) m (device_at m (a % 256))) answer s us s' Idle us' → images us' ≡ images us
       → DoesQuietly (Tio a) m answer (of_parts number s' Idle us')
-  test_at answer s' us' does same =
-      quiet (Tio a) m answer (of_parts number s Idle us) (of_parts number s' Idle us') st refl same
-      (subst (λ r. ShowsNext r answer (of_parts number s' Idle us'))
-      (ap (λ m. test_device (a % 256) m (device_at m (a % 256))) (sym st.shows.0)
-      ∙ sym (at_channel a number s Idle us m st (test_io (a % 256) m m.subchannel) on ∙ ap (test_io (a % 256) m) idle_there))
-      (does number st.shows.1 distinct))
+  test_at answer s' us' does same = quiet (Tio a) m answer (of_parts number s Idle us) (of_parts number s' Idle us') st refl same
+      (rw (at_channel a number s Idle us m st (test_io (a % 256) m m.subchannel) on, st.shows.0) (does number st.shows.1 distinct))
 
 -- Test I/O while a program runs, and while one's channel status word pends.
 pub test_working : (a number : ℕ) (s : Storage) (place : ℕ) (r : RunningState) (us : List AttachedState) (m : Machine)
     → StandsFor (of_parts number s (Working place r) us) m → a / 256 ≡ number
     → DoesQuietly (Tio a) m (WithCode Two) (of_parts number s (Working place r) us)
 test_working a number s place r us m st on = unchanged (Tio a) m (WithCode Two) number s (Working place r) us st
-    (at_channel a number s (Working place r) us m st (test_io (a % 256) m m.subchannel) on
-    ∙ ap (λ (n : Machine). test_io (a % 256) m n.subchannel) st.shows.machine)
+    (rw (at_channel a number s (Working place r) us m st (test_io (a % 256) m m.subchannel) on, st.shows.machine) refl)
 
 module _ (a number : ℕ) (s : Storage) (device : ℕ) (csw : Csw) (us : List AttachedState) (m : Machine)
     (st : StandsFor (of_parts number s (Pending device csw) us) m) (on : a / 256 ≡ number) where
@@ -147,23 +144,13 @@ module _ (a number : ℕ) (s : Storage) (device : ℕ) (csw : Csw) (us : List At
       ∙ ap (λ (n : Machine). test_io (a % 256) m n.subchannel) st.shows.0
 
   pub test_pending_other : (a % 256 ≡ device → ⊥) → DoesQuietly (Tio a) m (WithCode Two) (of_parts number s (Pending device csw) us)
-  test_pending_other h = unchanged (Tio a) m (WithCode Two) number s (Pending device csw) us st
-      (there ∙ ap (λ b. cond b (tested csw (with_subchannel machine.Idle m)) (WithCode Two, m)) (different (a % 256) device h))
+  test_pending_other h = unchanged (Tio a) m (WithCode Two) number s (Pending device csw) us st (there ∙ rw (different (a % 256) device h)
+      refl)
 
   pub test_pending : a % 256 ≡ device → (s' : Storage) → s' ≡ changed (csw_stored csw) s
       → DoesQuietly (Tio a) m (CswStored csw) (of_parts number s' Idle us)
   test_pending h s' stored = quiet (Tio a) m (CswStored csw) (of_parts number s (Pending device csw) us) (of_parts number s' Idle us)
-      st refl refl
-      (subst (λ r. ShowsNext r (CswStored csw) (of_parts number s' Idle us))
-      (sym (there ∙ ap (λ b. cond b (tested csw (with_subchannel machine.Idle m)) (WithCode Two, m)) (eq-eqb (a % 256) device h)))
-      (record {
-        answers = refl;
-        shows = (
-          ap (λ (m : Machine). (tested csw (with_subchannel machine.Idle m)).1) st.shows.0
-              ∙ ap (λ s. idle_machine number s us) (sym stored),
-          st.shows.1,
-        );
-      }))
+      st refl refl (rw (there, eq-eqb (a % 256) device h) (record { answers = refl; shows = (rw (st.shows.0, stored) refl, st.shows.1) }))
 
 -- the drive at the place of an address rests, where the channel is available
 pub rests_there : (device number : ℕ) (s : Storage) (us : List AttachedState) (place : ℕ) → IsChannel (of_parts number s Idle us)
@@ -185,15 +172,12 @@ module _ (a number : ℕ) (s : Storage) (sub : Subchannel) (us : List AttachedSt
 
   pub arrive_other : (a / 256 ≡ number → ⊥) → DoesQuietly (Arrive a) m (HasArrived false) (of_parts number s sub us)
   arrive_other h = unchanged (Arrive a) m (HasArrived false) number s sub us st
-      (ap (λ b. cond b (machine.arrive (a % 256) m (device_at m (a % 256))) (HasArrived false, m)) (ap (λ n. a / 256 == n) seen_here.channel
-      ∙ different (a / 256) number h))
+      (rw (seen_here.channel, different (a / 256) number h) refl)
 
   by_device : a / 256 ≡ number → (x : Option Device) → find (λ d. d.device == a % 256) (map device_of us) ≡ x
       → react (Arrive a) None m ≡ machine.arrive (a % 256) m (option_map seen_here.through x)
-  by_device on x h =
-      ap (λ b. cond b (machine.arrive (a % 256) m (device_at m (a % 256))) (HasArrived false, m)) (ap (λ n. a / 256 == n) seen_here.channel
-      ∙ eq-eqb (a / 256) number on)
-      ∙ ap (machine.arrive (a % 256) m) (device_seen (of_parts number s sub us) m seen_here (a % 256) x h)
+  by_device on x h = rw (ap (λ n. a / 256 == n) seen_here.channel ∙ eq-eqb (a / 256) number on) (ap (machine.arrive (a % 256) m)
+      (device_seen (of_parts number s sub us) m seen_here (a % 256) x h))
 
   pub arrive_none : a / 256 ≡ number → position (is_at (a % 256)) us ≡ None
       → DoesQuietly (Arrive a) m (HasArrived false) (of_parts number s sub us)
@@ -206,23 +190,16 @@ module _ (a number : ℕ) (s : Storage) (sub : Subchannel) (us : List AttachedSt
 
     by_arm : react (Arrive a) None m ≡ cond (is_in_motion arm) (HasArrived true, with_arm Arrived (a % 256) m) (HasArrived false, m)
     by_arm = by_device on (Some (device_of f.attached)) f.found
-        ∙ ap (λ arm. cond (is_in_motion arm) (HasArrived true, with_arm Arrived (a % 256) m) (HasArrived false, m))
-        (seen_here.arm (device_of f.attached) ∙ arm_there us place f.attached arm f.is_there is_arm)
+        ∙ rw (seen_here.arm (device_of f.attached), arm_there us place f.attached arm f.is_there is_arm) refl
 
     pub arrive_still : is_in_motion arm ≡ false → DoesQuietly (Arrive a) m (HasArrived false) (of_parts number s sub us)
-    arrive_still k = unchanged (Arrive a) m (HasArrived false) number s sub us st (by_arm
-        ∙ ap (λ b. cond b (HasArrived true, with_arm Arrived (a % 256) m) (HasArrived false, m)) k)
+    arrive_still k = unchanged (Arrive a) m (HasArrived false) number s sub us st (by_arm ∙ rw k refl)
 
     pub arrive_moves : (us' : List AttachedState) → arm ≡ InMotion → ArmChanges place Arrived us us'
         → DoesQuietly (Arrive a) m (HasArrived true) (of_parts number s sub us')
     arrive_moves us' k c = quiet (Arrive a) m (HasArrived true) (of_parts number s sub us) (of_parts number s sub us') st refl
-        (ap images c.becomes ∙ map_same (λ (u : AttachedState). u.drive.image) us place c.attached (record c.attached {
-          arm =
-              Arrived;
-        }) c.was refl)
-        (subst (λ r. ShowsNext r (HasArrived true) (of_parts number s sub us'))
-        (sym (by_arm ∙ ap (λ arm. cond (is_in_motion arm) (HasArrived true, with_arm Arrived (a % 256) m) (HasArrived false, m)) k))
-        (record {
+        (rw c.becomes (map_same (λ (u : AttachedState). u.drive.image) us place c.attached _ c.was refl))
+        (rw (by_arm, k) (record {
           answers = refl;
           shows = subst (λ us. Shows (of_parts number s sub us) (with_arm Arrived (a % 256) m) sub) (sym in_place)
               (subst (λ device. Shows (of_parts number s sub (slice_set us place (record f.attached { arm = Arrived })))
@@ -232,8 +209,7 @@ module _ (a number : ℕ) (s : Storage) (sub : Subchannel) (us : List AttachedSt
         }))
       where
         in_place : us' ≡ slice_set us place (record f.attached { arm = Arrived })
-        in_place = c.becomes ∙ ap (λ (v : AttachedState). slice_set us place (record v { arm = Arrived }))
-            (inside c.attached f.attached (sym c.was ∙ f.is_there))
+        in_place = rw (c.becomes, inside c.attached f.attached (sym c.was ∙ f.is_there)) refl
 
 -- Interruptions, by what the subchannel does.
 
@@ -244,7 +220,7 @@ pub interrupt_idle : (number : ℕ) (s : Storage) (us : List AttachedState) (m :
     → images us' ≡ images us → DoesQuietly Interrupt m (Interrupted told) (of_parts number s' Idle us')
 interrupt_idle number s us m told s' us' st does same = quiet Interrupt m (Interrupted told) (of_parts number s Idle us)
     (of_parts number s' Idle us') st refl same
-    (subst (λ m. ShowsNext (react Interrupt None m) (Interrupted told) (of_parts number s' Idle us')) (sym st.shows.0)
+    (rw st.shows.0
     (does st.shows.1 (distinct_drives (of_parts number s Idle us) m (seen_by (of_parts number s Idle us) m Idle st.shows) st.sound)))
 
 -- while a channel status word pends; it names the parts of the channel before and behind, as the code has them at hand
@@ -254,8 +230,7 @@ pub interrupt_pending : (number : ℕ) (s : Storage) (device : ℕ) (csw : Csw) 
     (of_parts number s' Idle us)
 interrupt_pending number s device csw us m told s' st is stored = quiet Interrupt m (Interrupted (Some told))
     (of_parts number s (Pending device csw) us) (of_parts number s' Idle us) st refl refl
-    (subst (λ m. ShowsNext (react Interrupt None m) (Interrupted (Some told)) (of_parts number s' Idle us)) (sym st.shows.0)
-    (record { answers = ap (λ t. Interrupted (Some t)) is; shows = (ap (λ s. idle_machine number s us) (sym stored), st.shows.1) }))
+    (rw (st.shows.0, is, stored) (record { answers = refl; shows = (refl, st.shows.1) }))
 
 -- While a program runs.
 
@@ -280,7 +255,7 @@ module _ (taking : StandsAfterInterruption) (changing : StandsAfterChange) (numb
   module _ (told : Option (ℕ × Csw)) (r' : RunningState) (s' : Storage) (device : ℕ) (is_device : Some device
       ≡ option_map (λ (u : AttachedState). u.device) (slice_get us place)) (t : TakesProgram number device told r r' s s') where
     same_device : device ≡ w.attached.device
-    same_device = inside device w.attached.device (is_device ∙ ap (option_map (λ (u : AttachedState). u.device)) w.is_there)
+    same_device = inside _ _ (is_device ∙ rw w.is_there refl)
 
     -- what the machine asks for is what is taken
     asks : asked_by (run_of m w.attached.device w.script) ≡ (standing_in r.key (phase_in r s w.attached.drive)).interruption
@@ -288,8 +263,7 @@ module _ (taking : StandsAfterInterruption) (changing : StandsAfterChange) (numb
 
     reacts : (x : Option Csw) → (standing_in r.key (phase_in r s w.attached.drive)).interruption ≡ x
         → react Interrupt None m ≡ interrupt_program w.attached.device w.script m x
-    reacts x h = ap (λ (n : Machine). machine.interrupt m n.subchannel) w.machine ∙ ap (interrupt_program w.attached.device w.script m)
-        (asks ∙ h)
+    reacts x h = ap (λ (n : Machine). machine.interrupt m n.subchannel) w.machine ∙ rw (asks, h) refl
 
     number_there : m.channel ≡ number
     number_there = ap (λ (m : Machine). m.channel) w.machine
@@ -306,19 +280,15 @@ module _ (taking : StandsAfterInterruption) (changing : StandsAfterChange) (numb
         drive = w.drive;
         script = w.script;
         machine = w.machine;
-        runs = subst (λ s'. StandsAtRun (start_of m w.drive) w.script r' s' w.attached.drive) (sym (t.storage
-            ∙ ap (λ told. storage_told told s) is)) (record {
-              together = t.stands w.attached.drive w.runs.together;
-              run = subst (λ key. StandsAt (start_of m w.drive) w.script key (phase_in r' s w.attached.drive)) (sym t.key)
-                  (subst (StandsAt (start_of m w.drive) w.script r.key) (sym (t.taken s w.attached.drive
-                  ∙ none_taken r.key (phase_in r s w.attached.drive) h)) w.runs.run);
-            });
+        runs = rw (t.storage, is) (record {
+          together = t.stands w.attached.drive w.runs.together;
+          run = rw (t.key, t.taken s w.attached.drive, none_taken r.key (phase_in r s w.attached.drive) h) w.runs.run;
+        });
         others = w.others;
       };
     }
     by_asked (Some csw) h is = record {
-      answers = ap Interrupted (is ∙ ap (λ n. Some (n, csw)) (ap (λ device. 256 * number + device) same_device
-          ∙ ap (λ channel. 256 * channel + w.attached.device) (sym number_there)));
+      answers = rw (is, same_device) (ap (λ n. Interrupted (Some (256 * n + w.attached.device, csw))) (sym number_there));
       shows = record {
         attached = w.attached;
         is_there = w.is_there;
@@ -327,13 +297,10 @@ module _ (taking : StandsAfterInterruption) (changing : StandsAfterChange) (numb
         script = w.script ++ TakesInterruption ∷ Outside (csw_stored csw) ∷ [];
         machine = ap (with_subchannel (machine.Working w.attached.device (w.script ++ TakesInterruption ∷ Outside (csw_stored csw) ∷ [])))
             w.machine;
-        runs = subst (λ s'. StandsAtRun (start_of m w.drive) (w.script ++ TakesInterruption ∷ Outside (csw_stored csw)
-            ∷ []) r' s' w.attached.drive) (sym (t.storage ∙ ap (λ told. storage_told told s) is))
-            (subst (λ script. StandsAtRun (start_of m w.drive) script r' (changed (csw_stored csw) s) w.attached.drive)
-            (append_assoc w.script (TakesInterruption ∷ []) (Outside (csw_stored csw) ∷ []))
+        runs = rw (t.storage, is, ← append_assoc w.script (TakesInterruption ∷ []) (Outside (csw_stored csw) ∷ []))
             (changing (start_of m w.drive) (w.script ++ TakesInterruption ∷ []) r' s w.attached.drive (csw_stored csw)
             (taking (start_of m w.drive) w.script r r' s w.attached.drive w.runs t.key (t.stands w.attached.drive w.runs.together)
-            (t.taken s w.attached.drive))));
+            (t.taken s w.attached.drive)));
         others = w.others;
       };
     }
@@ -341,8 +308,7 @@ module _ (taking : StandsAfterInterruption) (changing : StandsAfterChange) (numb
     pub interrupt_working : DoesQuietly Interrupt m (Interrupted told) (of_parts number s' (Working place r') us)
     interrupt_working = quiet Interrupt m (Interrupted told) (of_parts number s (Working place r) us)
         (of_parts number s' (Working place r') us) st refl refl
-        (subst (λ q. ShowsNext q (Interrupted told) (of_parts number s' (Working place r') us)) (sym (reacts _ refl))
-        (by_asked _ refl (t.told s w.attached.drive)))
+        (rw (reacts _ refl) (by_asked _ refl (t.told s w.attached.drive)))
 
 -- the place of the program that runs is one of the drives
 pub place_within : (number : ℕ) (s : Storage) (place : ℕ) (r : RunningState) (us : List AttachedState)

@@ -11,14 +11,13 @@ use Rattle.s360_words.specs.Storage.{Storage}
 use Rattle.ckd_command.specs.Drive.{Fault}
 use Rattle.ckd_drive.specs.Work.{DriveState}
 use Rattle.s360_laws.specs.Endings.{Ending}
-use Rattle.s360_laws.specs.Status.{no_unit_status, no_channel_status}
 use Rattle.s360_laws.specs.Units.{standing_in}
 use Rattle.s360_program.specs.Advances.{Cuts, CutTellsOf, AdvancesTo, TellsOf}
 use Rattle.s360_program.specs.Advances as program
 use Rattle.s360_program.specs.declared.program.LongAdvance.{LongAdvance}
 use Rattle.s360_program.specs.Stands.{RunningState, phase_in, Stands}
 use Rattle.s360_laws.specs.declared.condition.ConditionCode.TheVariants.{Two, Three, Zero}
-use Rattle.s360_laws.specs.Events.{Answer, Hio, Reset, WithCode, WasReset, StepBy, Stepped, StatusStored}
+use Rattle.s360_laws.specs.Events.{Answer, Hio, Reset, WithCode, WasReset, StepBy, Stepped}
 use Rattle.s360_laws.specs.Machine.{Machine, react, ended, cut, halt_io, fault_in, reset, unsaved_at, address_of, all_at_rest, at_rest}
 use Rattle.s360_laws.specs.Machine.{is_working, step, device_at, with_status}
 use Rattle.s360_laws.specs.Machine as machine
@@ -37,13 +36,14 @@ use Rattle.attached_drives.specs.Drives.{AttachedState, AllRest, device_of, is_a
 use Rattle.s360_channel.specs.declared.subchannel.Subchannel.{Subchannel}
 use Rattle.s360_channel.specs.declared.subchannel.Subchannel.TheVariants.{Idle, Pending, Working}
 use Rattle.attached_drives.specs.DriveCalls.{at_rest_attached, DriveChanges, DriveIs, AdvancesAt, CutsAt}
+use Rattle.s360_channel.specs.Nexts.{of_parts}
 use Rattle.s360_channel.specs.Ends.{arm_told, IsOver, MayBeCut, CutsProgram, LosesProgram, halted_idle, storage_halted}
 use Rattle.s360_channel.proofs.Changing.{seen_by}
 use Rattle.s360_channel.proofs.Stepping.{with_drive, with_both, channel_with, same_failures, one_failure, few_drives, does_this, fault_told}
 use Rattle.s360_channel.proofs.Stepping.{met_in, over, over_machine, over_rest, over_fault, calls_at_most, failures_told, cut_calls}
 use Rattle.s360_channel.proofs.Stepping.{runs_of, goes_on_does, ends_does}
 use Rattle.attached_drives.proofs.Places.{devices, all_of_others, inside, get_set, set_twice, both_found}
-use Rattle.s360_channel.proofs.Quiet.{images, none_fails, quiet_does, calls_then_none, none_calls, nothing_does}
+use Rattle.s360_channel.proofs.Quiet.{images, none_fails, calls_then_none, none_calls, nothing_does}
 use Rattle.s360_channel.proofs.Works.{subchannel_of, channel_of, seen_there, storage_seen}
 
 -- Cuts of a program that runs, by Halt I/O and by a reset; and a reset while none runs.
@@ -65,7 +65,7 @@ rest_all [] h = tt
 rest_all (u ∷ us) h = (record { idle = h.0.idle; unwritten = h.0.unwritten }, rest_all us h.1)
 
 rest_few : (us : List AttachedState) → length us ≤ 8 → length (map at_rest_attached us) ≤ 8
-rest_few us h = subst (λ n. n ≤ 8) (sym (length-map us at_rest_attached)) h
+rest_few us h = rw length-map h
 
 -- a channel that was reset, with the drives that it had
 abbrev pub reset_with : ChannelState → List AttachedState → ChannelState
@@ -74,29 +74,15 @@ reset_with c us = record { number = c.number; storage = c.storage; subchannel = 
 -- A reset while no program runs.
 pub idle_reset : (c : ChannelState) (m : Machine) (s : machine.Subchannel) → StandsFor c m → is_working s ≡ false → m ≡ machine_of c s
     → AllRest c.drives → Does Reset m (WasReset None) c (reset_with c c.drives)
-idle_reset c m s stands calm is rest = quiet_does Reset m (WasReset None) c (reset_with c c.drives) stands (record {
-  answers = sym (ap (λ (a : Answer × Machine). a.0) (was s calm is));
-  stands = record {
-    number = stands.number;
-    few = rest_few c.drives stands.few;
-    shows = (ap (λ (a : Answer × Machine). a.1) (was s calm is), rest_all c.drives rest);
-    sound = stays m Reset None stands.sound;
-  };
-}) (rest_images c.drives)
+idle_reset c m s stands calm is rest = does_this Reset m (WasReset None) c (reset_with c c.drives) None _ stands (was s calm is)
+    (record { number = refl; few = rest_few c.drives stands.few; shows = (refl, rest_all c.drives rest) })
+    (none_fails c (reset_with c c.drives) (rest_images c.drives)) (no_fault_none_told m Reset (runs_of m stands.sound))
   where
-    resets : (s : machine.Subchannel) → is_working s ≡ false → react Reset None (machine_of c s) ≡ (
-      WasReset None,
-      all_at_rest (machine_of c s),
-    )
-    resets machine.Idle h = refl
-    resets (machine.Pending p csw) h = refl
-    resets (machine.Working p script) h = absurd (cc)
-
     was : (s : machine.Subchannel) → is_working s ≡ false → m ≡ machine_of c s
         → react Reset None m ≡ (WasReset None, machine_of (reset_with c c.drives) machine.Idle)
-    was s h is = ap (react Reset None) is ∙ resets s h
-        ∙ ap (λ ds. (WasReset None, record { channel = c.number; storage = c.storage; subchannel = machine.Idle; devices = ds }))
-        (rest_devices c.drives)
+    was machine.Idle h is = rw (is, rest_devices) refl
+    was (machine.Pending p csw) h is = rw (is, rest_devices) refl
+    was (machine.Working p script) h is = absurd (cc)
 
 module _ (c : ChannelState) (place : ℕ) (r : RunningState) (m : Machine) (w : WorksFor c place r m) (stands : StandsFor c m)
     (told : Csw × Bool × Option (ℕ × ℕ)) (new : DriveState) (how : Cuts r.key (phase_in r c.storage w.attached.drive) told w.attached.drive
@@ -106,12 +92,12 @@ module _ (c : ChannelState) (place : ℕ) (r : RunningState) (m : Machine) (w : 
 
   is_cut : (f : Option Fault) → how.fault ≡ f → cut (fault_in (met_in 0 f)) w.attached.device m
       (machine.run_of m w.attached.device w.script) ≡ ended w.attached.device c.storage ending m
-  is_cut f is =
-      ap (cut (fault_in (met_in 0 f)) w.attached.device m) (seen_there c place r m w stands.sound)
-      ∙ (ap (λ f. ended w.attached.device (standing_in r.key (phase_in r c.storage w.attached.drive)).storage
-      ((standing_in r.key (phase_in r c.storage w.attached.drive)).cut f) m) (fault_back f ∙ sym is)
-      ∙ ap (λ s. ended w.attached.device s ending m) (storage_seen r.key r.stage r.place c.storage w.attached.drive.state
-      w.attached.drive.work))
+  is_cut f is = rw (
+    seen_there c place r m w stands.sound,
+    fault_back f,
+    ← is,
+    storage_seen r.key r.stage r.place c.storage w.attached.drive.state w.attached.drive.work,
+  ) refl
 
   over_machine_now : ended w.attached.device c.storage ending m ≡ machine_of (over c place w.attached c.storage told.0 told.1 new)
       (machine.Pending w.attached.device told.0)
@@ -124,12 +110,8 @@ module _ (c : ChannelState) (place : ℕ) (r : RunningState) (m : Machine) (w : 
     now_over = over c place w.attached c.storage told.0 told.1 new
 
     halt_by : (f : Option Fault) → how.fault ≡ f → react (Hio a) (met_in 0 f) m ≡ (WithCode Two, ended w.attached.device c.storage ending m)
-    halt_by f is =
-        ap (λ n. cond (a / 256 == n) (halt_io (fault_in (met_in 0 f)) (a % 256) m m.subchannel) (WithCode Three, m))
-        (channel_of c place r m w)
-        ∙ ap (λ b. cond b (halt_io (fault_in (met_in 0 f)) (a % 256) m m.subchannel) (WithCode Three, m)) here
-        ∙ ap (halt_io (fault_in (met_in 0 f)) (a % 256) m) (subchannel_of c place r m w)
-        ∙ ap (λ n. (WithCode Two, n)) (is_cut f is)
+    halt_by f is = simp (ap (λ n. a / 256 == n) (channel_of c place r m w) ∙ here, subchannel_of c place r m w)
+        (ap (λ n. (WithCode Two, n)) (is_cut f is))
 
     halt_met : (f : Option Fault) → program.IsMet f w.attached.drive new → IsMet (met_in 0 f) (WithCode Two) c now_over
     halt_met None h = same_failures c c.storage (Pending w.attached.device told.0) place w.attached (with_both w.attached told.1 new)
@@ -167,20 +149,15 @@ module _ (c : ChannelState) (place : ℕ) (r : RunningState) (m : Machine) (w : 
     WasReset lost,
     all_at_rest (ended w.attached.device c.storage ending m),
   )
-  reset_by f is =
-      ap (reset (fault_in (met_in 0 f)) m) (subchannel_of c place r m w)
-      ∙ ap (λ n. (
-        WasReset (unsaved_at (address_of m w.attached.device) (fault_in (met_in 0 f))
-            (machine.run_of m w.attached.device w.script)),
-        all_at_rest n,
-      )) (is_cut f is)
-      ∙ ap (λ t. (WasReset t, all_at_rest (ended w.attached.device c.storage ending m))) (
-      ap (unsaved_at (address_of m w.attached.device) (fault_in (met_in 0 f))) (seen_there c place r m w stands.sound)
-      ∙ ap (λ f. option_map (λ t. (address_of m w.attached.device, t.0, t.1))
-      ((standing_in r.key (phase_in r c.storage w.attached.drive)).cut f).unsaved) (fault_back f ∙ sym is)
-      ∙ ap (λ n. option_map (λ t. (256 * n + w.attached.device, t.0, t.1)) ending.unsaved) (channel_of c place r m w)
-      ∙ ap (option_map (λ t. (256 * c.number + w.attached.device, t.0, t.1))) (sym how.unsaved)
-      )
+  reset_by f is = simp (
+    subchannel_of c place r m w,
+    seen_there c place r m w stands.sound,
+    fault_back f,
+    ← is,
+    channel_of c place r m w,
+    storage_seen r.key r.stage r.place c.storage w.attached.drive.state w.attached.drive.work,
+    how.unsaved,
+  ) refl
 
   -- the arm does not matter then
   same_rest : (us : List AttachedState) (n : ℕ) (u v : AttachedState) → at_rest (device_of u) ≡ at_rest (device_of v)
@@ -190,10 +167,11 @@ module _ (c : ChannelState) (place : ℕ) (r : RunningState) (m : Machine) (w : 
   same_rest (x ∷ us) (suc n) u v h = ap (λ ds. at_rest (device_of x) ∷ ds) (same_rest us n u v h)
 
   reset_machine : all_at_rest (ended w.attached.device c.storage ending m) ≡ machine_of (reset_with c drives_then) machine.Idle
-  reset_machine =
-      ap all_at_rest over_machine_now
-      ∙ ap (λ ds. record { channel = c.number; storage = c.storage; subchannel = machine.Idle; devices = ds })
-      (same_rest c.drives place (with_both w.attached told.1 new) (with_drive w.attached new) refl ∙ rest_devices drives_then)
+  reset_machine = ap all_at_rest over_machine_now ∙ rw (
+    same_rest c.drives place (with_both w.attached told.1 new)
+        (with_drive w.attached new) refl,
+    rest_devices,
+  ) refl
 
   reset_met : (f : Option Fault) → program.IsMet f w.attached.drive new → IsMet (met_in 0 f) (WasReset lost) c (reset_with c drives_then)
   reset_met None h = none_fails (channel_with c c.storage Idle place (with_drive w.attached new)) (reset_with c drives_then)
@@ -258,8 +236,7 @@ at_attached place How old new u d at =
 
 pub still_there : (place : ℕ) (How : DriveState → DriveState → Type 0) (old new : List AttachedState) → DriveChanges place How old new
     → place < length new
-still_there place How old new d = subst (λ n. place < n) (sym (ap length d.becomes ∙ length-set old place (with_drive d.attached d.drive)))
-    (slice_get_within old place d.attached d.was)
+still_there place How old new d = rw (d.becomes, length-set) (slice_get_within old place d.attached d.was)
 
 -- a program that is over, at the drive that it changed; it names the drives before, between and behind, since it joins
 -- two changes of them
@@ -280,8 +257,8 @@ over_at place csw motion old between new u drive subchannel o at is = (
 
 none_steps : (c : ChannelState) (m : Machine) (k : ℕ) → ((place : ℕ) (r : RunningState) → c.subchannel ≡ Working place r → ⊥)
     → (s : Subchannel) → c.subchannel ≡ s → Shows c m s → react (StepBy k) None m ≡ (Stepped 0, m)
-none_steps c m k never Idle is h = ap (step k None m) (ap (λ (m : Machine). m.subchannel) h.0)
-none_steps c m k never (Pending device csw) is h = ap (step k None m) (ap (λ (m : Machine). m.subchannel) h.0)
+none_steps c m k never Idle is h = rw h.0 refl
+none_steps c m k never (Pending device csw) is h = rw h.0 refl
 none_steps c m k never (Working place r) is h = absurd (never place r is)
 
 pub no_step_does : (c : ChannelState) (m : Machine) (k : ℕ) → ((place : ℕ) (r : RunningState) → c.subchannel ≡ Working place r → ⊥)
@@ -315,48 +292,23 @@ module _ (c : ChannelState) (m : Machine) (place : ℕ) (r : RunningState) (is :
       go None h = omega (arith, h.done)
       go (Some told) h = h.done
 
-  pub step_goes_on : a.ending ≡ None → Does (StepBy k) m (Stepped a.done) c (record {
-    number = c.number;
-    storage = st;
-    subchannel =
-        Working place r';
-    drives = drives;
-  })
-      × CallsAtMost (2 * a.done) c (record { number = c.number; storage = st; subchannel = Working place r'; drives = drives })
-  step_goes_on e =
-      let now : List AttachedState → ChannelState = λ us. record {
-        number = c.number;
-        storage = st;
-        subchannel = Working place r';
-        drives =
-            us;
-      } in
-      subst (λ us. Does (StepBy k) m (Stepped a.done) c (now us) × CallsAtMost (2 * a.done) c (now us)) (sym y.1) (
-        goes_on_does c place r m w s k a.done st y.0 r'
-            (subst (λ e. AdvancesTo r.key (phase_in r c.storage w.attached.drive) k a.done e r' st w.attached.drive y.0) e y.2.advances),
-        calls_most (Working place r') (with_drive w.attached y.0) refl,
-      )
+  pub step_goes_on : a.ending ≡ None → Does (StepBy k) m (Stepped a.done) c (of_parts c.number st (Working place r') drives)
+      × CallsAtMost (2 * a.done) c (of_parts c.number st (Working place r') drives)
+  step_goes_on e = rw y.1 (
+    goes_on_does c place r m w s k a.done st y.0 r' (simp e at y.2.advances),
+    calls_most (Working place r') (with_drive w.attached y.0) refl,
+  )
 
   pub step_ends : (csw : Csw) (motion : Bool) → a.ending ≡ Some (csw, motion) → (drives' : List AttachedState) (subchannel : Subchannel)
       → IsOver place csw motion drives drives' subchannel
-      → Does (StepBy k) m (Stepped a.done) c (record { number = c.number; storage = st; subchannel = subchannel; drives = drives' })
-      × CallsAtMost (2 * a.done) c (record { number = c.number; storage = st; subchannel = subchannel; drives = drives' })
+      → Does (StepBy k) m (Stepped a.done) c (of_parts c.number st subchannel drives')
+      × CallsAtMost (2 * a.done) c (of_parts c.number st subchannel drives')
   step_ends csw motion e drives' subchannel o =
       let z = over_at place csw motion c.drives drives drives' w.attached y.0 subchannel o w.is_there y.1 in
-      let now : Subchannel → List AttachedState → ChannelState = λ sub us. record {
-        number = c.number;
-        storage = st;
-        subchannel =
-            sub;
-        drives = us;
-      } in
-      subst (λ us. Does (StepBy k) m (Stepped a.done) c (now subchannel us) × CallsAtMost (2 * a.done) c (now subchannel us)) (sym z.0)
-      (subst (λ sub. Does (StepBy k) m (Stepped a.done) c (now sub (slice_set c.drives place (with_both w.attached motion y.0)))
-      × CallsAtMost (2 * a.done) c (now sub (slice_set c.drives place (with_both w.attached motion y.0)))) (sym z.1) (
-        ends_does c place r m w s k a.done st y.0 (csw, motion) (subst (λ e. TellsOf e w.attached.drive y.0) e y.2.tells)
-            (subst (λ e. AdvancesTo r.key (phase_in r c.storage w.attached.drive) k a.done e r' st w.attached.drive y.0) e y.2.advances),
+      rw (z.0, z.1) (
+        ends_does c place r m w s k a.done st y.0 (csw, motion) (simp e at y.2.tells) (simp e at y.2.advances),
         calls_most (Pending w.attached.device csw) (with_both w.attached motion y.0) refl,
-      ))
+      )
 
 -- Cuts.
 
@@ -370,9 +322,7 @@ cut_allowed c m h = may_be_cut c m h c.subchannel refl
 
 on_this : (c : ChannelState) (m : Machine) (a : ℕ) (b : Bool) → StandsFor c m → (a / 256 == c.number) ≡ b
     → react (Hio a) None m ≡ cond b (halt_io None (a % 256) m m.subchannel) (WithCode Three, m)
-on_this c m a b s is =
-    ap (λ n. cond (a / 256 == n) (halt_io None (a % 256) m m.subchannel) (WithCode Three, m)) (seen_by c m c.subchannel s.shows).channel
-    ∙ ap (λ b. cond b (halt_io None (a % 256) m m.subchannel) (WithCode Three, m)) is
+on_this c m a b s is = rw (ap (λ n. a / 256 == n) (seen_by c m c.subchannel s.shows).channel ∙ is) refl
 
 -- an address of another channel
 pub halts_elsewhere : (c : ChannelState) (m : Machine) (a : ℕ) → StandsFor c m → (a / 256 ≡ c.number → ⊥)
@@ -389,89 +339,48 @@ halts_pending c m a device csw s here is = nothing_does (Hio a) m c (WithCode Ze
 -- while the channel is available
 module _ (c : ChannelState) (m : Machine) (a : ℕ) (s : StandsFor c m) (here : a / 256 ≡ c.number) (is : c.subchannel ≡ Idle) where
   abbrev halted : Bool → ChannelState
-  halted b = record { number = c.number; storage = storage_halted b c.storage; subchannel = c.subchannel; drives = c.drives }
+  halted b = record c { storage = storage_halted b c.storage }
 
   shown : (m ≡ machine_of c machine.Idle) × AllRest c.drives
   shown = subst (Shows c m) is s.shows
 
-  reacts : (b : Bool) → is_some (device_at (machine_of c machine.Idle) (a % 256)) ≡ b
-      → react (Hio a) None m ≡ cond b (
-        StatusStored no_unit_status no_channel_status,
-        with_status no_unit_status no_channel_status
-            (machine_of c machine.Idle),
-      ) (WithCode Three, machine_of c machine.Idle)
-  reacts b found =
-      on_this c m a true s (eq-eqb _ _ here) ∙ ap (λ m. halt_io None (a % 256) m m.subchannel) shown.0
-      ∙ ap (λ b. cond b (
-        StatusStored no_unit_status no_channel_status,
-        with_status no_unit_status no_channel_status
-            (machine_of c machine.Idle),
-      ) (WithCode Three, machine_of c machine.Idle)) found
-
-  halts : (b : Bool) → react (Hio a) None m ≡ (condition_seen status_seen (halted_idle b), machine_of (halted b) machine.Idle)
+  halts : (b : Bool) → is_some (device_at (machine_of c machine.Idle) (a % 256)) ≡ b
       → Does (Hio a) m (condition_seen status_seen (halted_idle b)) c (halted b)
-  halts b h = quiet_does (Hio a) m (condition_seen status_seen (halted_idle b)) c (halted b) s (record {
-    answers = sym (ap (λ (a : Answer × Machine). a.0) h);
-    stands = record {
-      number = s.number;
-      few = s.few;
-      shows = subst (Shows (halted b) (react (Hio a) None m).1) (sym is) (ap (λ (a : Answer × Machine). a.1) h, shown.1);
-      sound = stays m (Hio a) None s.sound;
-    };
-  }) refl
+  halts b found = does_this (Hio a) m (condition_seen status_seen (halted_idle b)) c (halted b) None (machine_of (halted b) machine.Idle) s
+      (on_this c m a true s (eq-eqb _ _ here) ∙ go b found) (record { number = refl; few = s.few; shows = rw is (refl, shown.1) }) refl
+      (no_fault_none_told m (Hio a) (runs_of m s.sound))
+    where
+      go : (b : Bool) → is_some (device_at (machine_of c machine.Idle) (a % 256)) ≡ b
+          → halt_io None (a % 256) m m.subchannel ≡ (condition_seen status_seen (halted_idle b), machine_of (halted b) machine.Idle)
+      go true found = rw (shown.0, found) refl
+      go false found = rw (shown.0, found) refl
 
   idle_halts : Does (Hio a) m (condition_seen status_seen (halted_idle (is_some (position (is_at (a % 256)) c.drives)))) c
       (halted (is_some (position (is_at (a % 256)) c.drives)))
-  idle_halts = subst (λ b. Does (Hio a) m (condition_seen status_seen (halted_idle b)) c (halted b)) (sym (both_found (a % 256) c.drives))
-      (go (is_some (device_at (machine_of c machine.Idle) (a % 256))) refl)
-    where
-      go : (b : Bool) → is_some (device_at (machine_of c machine.Idle) (a % 256)) ≡ b
-          → Does (Hio a) m (condition_seen status_seen (halted_idle b)) c (halted b)
-      go true found = halts true (reacts true found)
-      go false found = halts false (reacts false found)
+  idle_halts = rw both_found (halts _ refl)
 
   pub halts_idle : (result : Condition Status) (st : Storage) → result ≡ halted_idle (is_some (position (is_at (a % 256)) c.drives))
       → st ≡ storage_halted (is_some (position (is_at (a % 256)) c.drives)) c.storage
       → Does (Hio a) m (condition_seen status_seen result) c (record c { storage = st }) × CallsAtMost 1 c (record c { storage = st })
-  halts_idle result st answer left = (
-    subst (λ r. Does (Hio a) m (condition_seen status_seen r) c (record c { storage = st })) (sym answer)
-        (subst (λ st. Does (Hio a) m (condition_seen status_seen (halted_idle (is_some (position (is_at (a % 256)) c.drives)))) c
-        (record c { storage = st })) (sym left) idle_halts),
-    none_calls 1 c (record c { storage = st }) refl,
-  )
+  halts_idle result st answer left = (rw (answer, left) idle_halts, none_calls 1 c (record c { storage = st }) refl)
 
 -- the program that runs is cut; by all that the answer clause of the code has at hand, a premise each
 pub halts_working : (c : ChannelState) (m : Machine) (place : ℕ) (r : RunningState) → c.subchannel ≡ Working place r → StandsFor c m
     → (drives : List AttachedState) (subchannel : Subchannel) → CutsProgram c.subchannel c.drives drives subchannel
-    → (a : ℕ) → a / 256 ≡ c.number → Does (Hio a) m (WithCode Two) c (record {
-      number = c.number;
-      storage = c.storage;
-      subchannel =
-          subchannel;
-      drives = drives;
-    })
-    × CallsAtMost 1 c (record { number = c.number; storage = c.storage; subchannel = subchannel; drives = drives })
+    → (a : ℕ) → a / 256 ≡ c.number → Does (Hio a) m (WithCode Two) c (of_parts c.number c.storage subchannel drives)
+    × CallsAtMost 1 c (of_parts c.number c.storage subchannel drives)
 halts_working c m place r is s drives subchannel h a here =
     let w = works c m place r is s in
     let cuts = subst (λ sub. CutsProgram sub c.drives drives subchannel) is h in
     let y = at_attached place (CutsAt r cuts.told) c.drives cuts.between w.attached cuts.cut w.is_there in
     let z = over_at place cuts.told.0 cuts.told.1 c.drives cuts.between drives w.attached y.0 subchannel cuts.over w.is_there y.1 in
-    let now : Subchannel → List AttachedState → ChannelState = λ sub us. record {
-      number = c.number;
-      storage = c.storage;
-      subchannel =
-          sub;
-      drives = us;
-    } in
     let u = with_both w.attached cuts.told.1 y.0 in
-    subst (λ us. Does (Hio a) m (WithCode Two) c (now subchannel us) × CallsAtMost 1 c (now subchannel us)) (sym z.0)
-    (subst (λ sub. Does (Hio a) m (WithCode Two) c (now sub (slice_set c.drives place u))
-    × CallsAtMost 1 c (now sub (slice_set c.drives place u))) (sym z.1) (
+    simp (z.0, z.1) (
       halt_does c place r m w s cuts.told y.0 (y.2.cut c.storage) y.2.tells a (eq-eqb _ _ here),
       calls_at_most c c.storage (Pending w.attached.device cuts.told.0) place w.attached u w.is_there 1 (cut_calls _ w.attached.drive y.0
           (y.2.calls c.storage))
           (failures_told (Some (cuts.told.0, cuts.told.1)) w.attached.drive y.0 y.2.tells.fault),
-    ))
+    )
 
 -- Resets.
 
@@ -483,13 +392,8 @@ module _ (c : ChannelState) (m : Machine) (s : StandsFor c m) where
   module _ (drives : List AttachedState) (unsaved : Option (ℕ × ℕ × ℕ)) where
     calm : (sub : machine.Subchannel) → is_working sub ≡ false → (m ≡ machine_of c sub) × AllRest c.drives → (drives ≡ c.drives)
         × (unsaved ≡ None) → Resets drives unsaved
-    calm sub quiet y h = subst (λ us. Resets us unsaved) (sym h.0)
-        (subst (Resets c.drives) (sym h.1) (
-          y.1,
-          idle_reset c m sub s quiet y.0 y.1,
-          none_calls 1 c (reset_with c c.drives)
-              (rest_images c.drives),
-        ))
+    calm sub quiet y h =
+        rw (h.0, h.1) (y.1, idle_reset c m sub s quiet y.0 y.1, none_calls 1 c (reset_with c c.drives) (rest_images c.drives))
 
     resets_by : (sub : Subchannel) → c.subchannel ≡ sub → LosesProgram sub c.number c.drives drives unsaved → Resets drives unsaved
     resets_by Idle is h = calm machine.Idle refl (subst (Shows c m) is s.shows) h
@@ -501,14 +405,14 @@ module _ (c : ChannelState) (m : Machine) (s : StandsFor c m) where
         let t : unsaved ≡ option_map (λ t. (256 * c.number + w.attached.device, t.0, t.1)) h.told.2 = h.tells
         ∙ ap (λ (u : AttachedState). option_map {U = ℕ × ℕ × ℕ} (λ t. (256 * c.number + u.device, t.0, t.1)) h.told.2) e in
         let u = with_drive w.attached y.0 in
-        subst (λ us. Resets us unsaved) (sym y.1) (subst (Resets (slice_set c.drives place u)) (sym t) (
+        rw (y.1, t) (
           all_of_others c.drives place u w.others (y.2.cut c.storage).is_ending.drive.rests,
           reset_does c place r m w s h.told y.0 (y.2.cut c.storage) y.2.tells,
           calls_then_none 1 c (channel_with c c.storage Idle place u) (reset_with c (slice_set c.drives place u))
               (calls_at_most c c.storage Idle place w.attached u w.is_there 1 (cut_calls _ w.attached.drive y.0 (y.2.calls c.storage))
               (failures_told (Some (h.told.0, h.told.1)) w.attached.drive y.0 y.2.tells.fault))
               (rest_images (slice_set c.drives place u)),
-        ))
+        )
 
     pub resets : LosesProgram c.subchannel c.number c.drives drives unsaved → Resets drives unsaved
     resets h = resets_by c.subchannel refl h
@@ -518,11 +422,4 @@ module _ (c : ChannelState) (m : Machine) (s : StandsFor c m) where
         → subchannel ≡ Idle → now ≡ map at_rest_attached drives
         → Does Reset m (WasReset unsaved) c (record c { subchannel = subchannel; drives = now })
         × CallsAtMost 1 c (record c { subchannel = subchannel; drives = now })
-    resets_to lost subchannel now idle rest =
-        subst (λ us. Does Reset m (WasReset unsaved) c (record c { subchannel = subchannel; drives = us })
-        × CallsAtMost 1 c (record c { subchannel = subchannel; drives = us })) (sym rest)
-        (subst (λ sub. Does Reset m (WasReset unsaved) c (record c { subchannel = sub; drives = map at_rest_attached drives })
-        × CallsAtMost 1 c (record c { subchannel = sub; drives = map at_rest_attached drives })) (sym idle) (
-          (resets lost).1,
-          (resets lost).2,
-        ))
+    resets_to lost subchannel now idle rest = rw (idle, rest) ((resets lost).1, (resets lost).2)

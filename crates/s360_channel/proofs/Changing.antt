@@ -21,10 +21,8 @@ use Rattle.s360_laws.specs.Machine as machine
 use Rattle.s360_laws.specs.Soundness.{AreDistinct, IsRunning, IsSound, IsSoundIn, device_owes}
 use Rattle.s360_laws.proofs.FindDevices.{Keeps, set_drive, found_map, keeps_one, set_arm, different}
 use Rattle.s360_channel.specs.Attaches.{NotRefused}
-use Rattle.s360_channel.specs.Channel.{ChannelState, WorksFor, machine_of, Shows}
-use Rattle.attached_drives.specs.Drives.{AllRest, AttachedState, OthersRest, device_of, is_at}
-use Rattle.s360_channel.specs.Channel.{StandsFor, attached}
-use Rattle.attached_drives.specs.Drives.{new_attached}
+use Rattle.s360_channel.specs.Channel.{ChannelState, WorksFor, machine_of, Shows, StandsFor, attached}
+use Rattle.attached_drives.specs.Drives.{AllRest, AttachedState, OthersRest, device_of, is_at, new_attached}
 use Rattle.s360_channel.specs.declared.subchannel.Subchannel.{Subchannel}
 use Rattle.s360_channel.specs.declared.subchannel.Subchannel.TheVariants.{Idle, Working, Pending}
 use Rattle.s360_channel.specs.Packs.{pends_for, runs_at, volume_in}
@@ -36,8 +34,7 @@ use Rattle.attached_drives.proofs.Places.{rests_at, all_push, false_is_true, is_
 -- what an image holds that has the volume of its drive
 pub volume_given : (d : DriveState) (image : ImageState) → image ≡ d.image → d.image.geometry ≡ d.state.volume.geometry
     → d.image.slots ≡ d.state.volume.slots → volume_in image ≡ d.state.volume
-volume_given d image same geometry slots = ap volume_in same ∙ (ap (λ g. record (volume_in d.image) { geometry = g }) geometry
-    ∙ ap (λ s. record d.state.volume { slots = s }) slots)
+volume_given d image same geometry slots = rw (same, geometry, slots) refl
 
 -- A machine whose devices change stays sound, where they are still distinct and all but one are found as they were, whose program
 -- doesn't run; where that one's channel status word pends, its arm owes what it owed.
@@ -60,28 +57,22 @@ sound_with m device ds distinct same off owes s = (distinct, go m.subchannel off
       where
         owed : (x : Bool) → (d == device) ≡ x → device_owes (find (λ o. o.device == d) ds) ≡ device_owes (find (λ o. o.device ==
             d) m.devices)
-        owed true e = subst (λ n. device_owes (find (λ o. o.device == n) ds) ≡ device_owes (find (λ o. o.device == n) m.devices))
-            (sym (eqb-true d device e)) (b e)
+        owed true e = rw (eqb-true d device e) (b e)
         owed false e = ap device_owes (same d e)
 
 -- changes of different devices, or of different parts of one, come to the same in either order
 pub changes_apart : (a b : ℕ) (f g : Device → Device) → Keeps f → Keeps g → (a ≡ b → (d : Device) → f (g d) ≡ g (f d)) → (ds : List Device)
     → map (changes a f) (map (changes b g) ds) ≡ map (changes b g) (map (changes a f) ds)
 changes_apart a b f g k l h [] = refl
-changes_apart a b f g k l h (d ∷ ds) =
-    ap (λ x. x ∷ map (changes a f) (map (changes b g) ds)) (go (d.device == a) (d.device == b) refl refl)
-    ∙ ap (λ r. changes b g (changes a f d) ∷ r) (changes_apart a b f g k l h ds)
+changes_apart a b f g k l h (d ∷ ds) = rw (go (d.device == a) (d.device == b) refl refl, changes_apart a b f g k l h ds) refl
   where
     go : (x y : Bool) → (d.device == a) ≡ x → (d.device == b) ≡ y → changes a f (cond y (g d) d) ≡ changes b g (cond x (f d) d)
-    go x false e i = ap (λ b. cond b (f d) d) e ∙ sym (off x e)
-      where
-        off : (x : Bool) → (d.device == a) ≡ x → changes b g (cond x (f d) d) ≡ cond x (f d) d
-        off true e = ap (λ b. cond b (g (f d)) (f d)) (ap (λ n. n == b) (k d) ∙ i)
-        off false e = ap (λ b. cond b (g d) d) i
     go true true e i =
         ap (λ b. cond b (f (g d)) (g d)) (ap (λ n. n == a) (l d) ∙ e) ∙ (h (sym (eqb-true d.device a e) ∙ eqb-true d.device b i) d
         ∙ sym (ap (λ b. cond b (g (f d)) (f d)) (ap (λ n. n == b) (k d) ∙ i)))
-    go false true e i = ap (λ b. cond b (f (g d)) (g d)) (ap (λ n. n == a) (l d) ∙ e) ∙ sym (ap (λ b. cond b (g d) d) i)
+    go true false e i = rw (k d, e, i) refl
+    go false true e i = rw (l d, e, i) refl
+    go false false e i = rw (e, i) refl
 
 -- where the drive of a program that runs is then: its place and its arm may be others, and all else of it stays
 pub record StillAt (place : ℕ) (us : List AttachedState) (w : AttachedState) : Type 0 where
@@ -96,11 +87,7 @@ module _ (c : ChannelState) (m : Machine) (us : List AttachedState) (change : Li
   -- while no program runs
   pub rests_changed : (s : machine.Subchannel) → m ≡ machine_of c s → AllRest us
       → (record m { devices = change m.devices } ≡ machine_of (record c { drives = us }) s) × AllRest us
-  rests_changed s h r = (
-    ap (λ (m : Machine). record m { devices = change m.devices }) h
-        ∙ ap (λ ds. record (machine_of c s) { devices = ds }) (sym now),
-    r,
-  )
+  rests_changed s h r = (rw (h, now) refl, r)
 
   -- and while one does, whose start the change doesn't concern
   pub works_changed : (sub : Subchannel) (p q : ℕ) (r : RunningState) (w : WorksFor c p r m) → StillAt q us w.attached
@@ -113,14 +100,7 @@ module _ (c : ChannelState) (m : Machine) (us : List AttachedState) (change : Li
     storage = w.storage;
     drive = w.drive;
     script = w.script;
-    machine = ap (λ (m : Machine). record m { devices = change m.devices }) w.machine
-        ∙ (ap (λ ds. record (machine_of c (machine.Working w.attached.device w.script)) { storage = w.storage; devices = ds }) (apart
-        ∙ ap (map (changes w.attached.device (set_drive w.drive))) (sym now))
-        ∙ ap (λ n. record (machine_of c (machine.Working n w.script)) {
-          storage = w.storage;
-          devices =
-              map (changes n (set_drive w.drive)) (devices us);
-        }) (sym k.same_device));
+    machine = ap (λ (m : Machine). record m { devices = change m.devices }) w.machine ∙ rw (apart, now, k.same_device) refl;
     runs = subst (StandsAtRun (start_of m w.drive) w.script r c.storage) (sym k.same_drive) w.runs;
     others = k.others;
   }
@@ -167,9 +147,7 @@ distinct_drives c m b sound = distinct_before b.through b.keeps (map device_of c
 -- the device at an address is the drive's there
 pub device_seen : (c : ChannelState) (m : Machine) (b : SeenBy c m) (device : ℕ) (x : Option Device)
     → find (λ d. d.device == device) (map device_of c.drives) ≡ x → device_at m device ≡ option_map b.through x
-device_seen c m b device x h =
-    ap (find (λ d. d.device == device)) b.devices ∙ found_map (λ d. d == device) b.through b.keeps (map device_of c.drives)
-    ∙ ap (option_map b.through) h
+device_seen c m b device x h = rw (b.devices, found_map (λ d. d == device) b.through b.keeps (map device_of c.drives), h) refl
 
 -- The arm of a drive.
 
@@ -186,16 +164,15 @@ still_armed us place p u w arm h k r = go (p == place) refl
         let is = eqb-true p place e in
         let same : u ≡ w = inside u w (sym h ∙ (ap (slice_get us) (sym is) ∙ k)) in record {
           attached = record u { arm = arm };
-          is_there = ap (slice_get (slice_set us place (record u { arm = arm }))) is ∙ get_set us place u (record u { arm = arm }) h;
-          same_device = ap (λ (u : AttachedState). u.device) same;
-          same_drive = ap (λ (u : AttachedState). u.drive) same;
+          is_there = rw is (get_set us place u (record u { arm = arm }) h);
+          same_device = rw same refl;
+          same_drive = rw same refl;
           others = others;
         }
     go false e = record {
       attached = w;
       is_there = get_other us place p (record u { arm = arm }) (eqb-false p place e) ∙ k;
-      same_device =
-          refl;
+      same_device = refl;
       same_drive = refl;
       others = others;
     }
@@ -216,10 +193,8 @@ module _ (c : ChannelState) (m : Machine) (place : ℕ) (u : AttachedState) (arm
   now = devices_set c.drives place u (record u { arm = arm }) (set_arm arm) distinct there refl
 
   pub shows_armed : (sub : Subchannel) → Shows c m sub → Shows (armed c place u arm) (with_arm arm u.device m) sub
-  shows_armed Idle h = rests_changed c m drives_then change now machine.Idle h.0 (all_set c.drives place (record u { arm = arm }) h.1
-      (rests_at c.drives place u h.1 there))
-  shows_armed (Pending device csw) h = rests_changed c m drives_then change now (machine.Pending device csw) h.0
-      (all_set c.drives place (record u { arm = arm }) h.1 (rests_at c.drives place u h.1 there))
+  shows_armed Idle h = rests_changed c m drives_then change now machine.Idle h.0 (all_set _ place _ h.1 (rests_at _ place u h.1 there))
+  shows_armed (Pending device csw) h = rests_changed c m drives_then change now _ h.0 (all_set _ place _ h.1 (rests_at _ place u h.1 there))
   shows_armed (Working p r) w = works_changed c m drives_then change now c.subchannel p p r w
       (still_armed c.drives place p u w.attached arm there w.is_there w.others)
       (changes_apart u.device w.attached.device (set_arm arm) (set_drive w.drive) (λ d. refl) (λ d. refl) (λ e d. refl) (devices c.drives))
@@ -270,9 +245,7 @@ sound_push device image m s none =
   where
     owes : device_owes (find (λ o. o.device == device) (m.devices ++ new_device device image ∷ [])) ≡ device_owes (find (λ o. o.device ==
         device) m.devices)
-    owes = ap device_owes (find-append (λ o. o.device == device) m.devices (new_device device image ∷ [])
-        ∙ ap (λ x. option_or x (find (λ o. o.device == device) (new_device device image ∷ []))) none)
-        ∙ (ap (λ b. device_owes (cond b (Some (new_device device image)) None)) (same_number device) ∙ sym (ap device_owes none))
+    owes = rw (find-append, none, same_number device) refl
 
 -- The channel.
 
@@ -293,21 +266,15 @@ module _ (device : ℕ) (image : ImageState) (c : ChannelState) (m : Machine) (f
   now_more = map-append device_of c.drives (new_attached device image ∷ [])
 
   shows_push : (s : Subchannel) → Shows c m s → Shows (record c { drives = drives_more }) (attached device image m) s
-  shows_push Idle h = rests_changed c m drives_more with_this now_more machine.Idle h.0 (all_push c.drives (new_attached device image) h.1
-      (new_rests device image))
-  shows_push (Pending d csw) h = rests_changed c m drives_more with_this now_more (machine.Pending d csw) h.0
-      (all_push c.drives (new_attached device image) h.1 (new_rests device image))
+  shows_push Idle h = rests_changed c m drives_more with_this now_more machine.Idle h.0 (all_push c.drives _ h.1 (new_rests device image))
+  shows_push (Pending d csw) h = rests_changed c m drives_more with_this now_more _ h.0 (all_push c.drives _ h.1 (new_rests device image))
   shows_push (Working place r) w = works_changed c m drives_more with_this now_more c.subchannel place place r w (record {
     attached = w.attached;
     is_there = get_push c.drives place w.attached (new_attached device image) w.is_there;
     same_device = refl;
     same_drive = refl;
     others = others_push c.drives place w.attached (new_attached device image) w.is_there w.others (new_rests device image);
-  }) (
-      ap (λ d. map (changes w.attached.device (set_drive w.drive)) (devices c.drives) ++ d ∷ [])
-      (sym (ap (λ b. cond b (set_drive w.drive (new_device device image)) (new_device device image)) other))
-      ∙ sym (map-append (changes w.attached.device (set_drive w.drive)) (devices c.drives) (new_device device image ∷ []))
-      )
+  }) (rw (map-append, other) refl)
     where
       other : (device == w.attached.device) ≡ false
       other = different device w.attached.device (λ e. false_is_true (sym (ap is_some free)
@@ -317,10 +284,9 @@ module _ (device : ℕ) (image : ImageState) (c : ChannelState) (m : Machine) (f
 pub stands_push : (device : ℕ) (image : ImageState) (c : ChannelState) (m : Machine) (drives : List AttachedState) → NotRefused device c
     → drives ≡ c.drives ++ new_attached device image ∷ [] → StandsFor c m
     → StandsFor (record c { drives = drives }) (attached device image m)
-stands_push device image c m drives n e s = subst (λ us. StandsFor (record c { drives = us }) (attached device image m)) (sym e) (record {
+stands_push device image c m drives n e s = rw e (record {
   number = s.number;
-  few = subst (λ k. k ≤ 8) (sym (length_push c.drives (new_attached device image)))
-      (below (length c.drives) s.few (eqb-false (length c.drives) 8 n.1));
+  few = let h = eqb-false (length c.drives) 8 n.1 in rw length_push (grind (arith, s.few, h));
   shows = shows_push device image c m free c.subchannel s.shows;
   sound = sound_push device image m s.sound (device_seen c m (seen_by c m c.subchannel s.shows) device None free);
 })
@@ -331,9 +297,6 @@ stands_push device image c m drives n e s = subst (λ us. StandsFor (record c { 
 
     free : find (λ o. o.device == device) (devices c.drives) ≡ None
     free = none_found device c.drives (none (position (is_at device) c.drives) n.0)
-
-    below : (n : ℕ) → n ≤ 8 → (n ≡ 8 → ⊥) → n + 1 ≤ 8
-    below n l h = grind (arith, l, h)
 
 -- what the code asks of the place and the number
 pub may_attach : (device : ℕ) (c : ChannelState) (place : Option ℕ) (n : ℕ) → place ≡ position (is_at device) c.drives

@@ -1,7 +1,7 @@
 -- What the processor does to storage, at a channel and at the machine that it stands for; and a channel that finds another storage.
 use Rattle.std.proofs.Common.{◌≡◌, ℕ, ◌+◌, refl, sym, ap, subst, ◌∙◌, true, false, Bool, cond, ◌||◌, ◌==◌, List, [], ◌∷◌, ◌++◌, length}
-use Rattle.std.proofs.Common.{None, suc, ◌*◌, ◌/◌, ◌%◌, ◌≤◌, ◌<◌, arith, ◌&&◌}
-use Rattle.std.proofs.lemmas.Bool.{eqb-true, lt-ltb}
+use Rattle.std.proofs.Common.{None, suc, ◌*◌, ◌/◌, ◌%◌, ◌≤◌, arith, ◌&&◌}
+use Rattle.std.proofs.lemmas.Bool.{and_parts, eqb-true, lt-ltb}
 use Rattle.std.proofs.lemmas.List.{length-set}
 use Rattle.std.specs.Prelude.{nat_lt, nat_le, slice_set, ◌||◌}
 use Rattle.s360_words.specs.Storage.{Storage, Change, Bytes, KeyOf, changed, is_within, is_size, overwritten}
@@ -11,7 +11,7 @@ use Rattle.s360_laws.proofs.Standing.{goes_by}
 use Rattle.s360_laws.specs.Scripts.{Outside}
 use Rattle.s360_laws.specs.RunWrites.{OutcomeKeepsSize}
 use Rattle.s360_program.proofs.Ties.{after_change, seen}
-use Rattle.s360_laws.specs.Events.{Event, Store, SetKey, Show, Shown, WasKept, Answer}
+use Rattle.s360_laws.specs.Events.{Event, Store, SetKey, Show, Shown, WasKept}
 use Rattle.s360_laws.specs.Machine.{Machine, react, keep, change, part_of, storage_of, start_of, with_device, with_subchannel, after_all}
 use Rattle.s360_laws.specs.Machine.{plain}
 use Rattle.s360_laws.specs.Machine as machine
@@ -28,8 +28,8 @@ use Rattle.s360_channel.proofs.Works.{storage_there, storage_seen, subchannel_of
 -- Storage is as large in the channel as in the machine.
 
 pub size_in : (c : ChannelState) (m : Machine) (s : Subchannel) → Shows c m s → length c.storage.bytes ≡ length m.storage.bytes
-size_in c m Idle h = ap (λ (m : Machine). length m.storage.bytes) (sym h.0)
-size_in c m (Pending device csw) h = ap (λ (m : Machine). length m.storage.bytes) (sym h.0)
+size_in c m Idle h = rw h.0 refl
+size_in c m (Pending device csw) h = rw h.0 refl
 size_in c m (Working place r) w =
     ap (λ s. length s.bytes) (sym (storage_seen r.key r.stage r.place c.storage w.attached.drive.state w.attached.drive.work))
     ∙ subst (OutcomeKeepsSize m.storage) (seen (start_of m w.drive) w.script r c.storage w.attached.drive w.runs)
@@ -62,24 +62,19 @@ pub keeps : (e : Event) (x : Change) → ((m : Machine) → react e None m ≡ k
 keeps e x is_keep c m h = go (is_within x c.storage) (within_size x m.storage c.storage (sym (size_in c m c.subchannel h.shows)))
   where
     reacts : (b : Bool) → is_within x m.storage ≡ b → react e None m ≡ cond b (WasKept true, change x m m.subchannel) (WasKept false, m)
-    reacts b k = is_keep m ∙ ap (λ b. cond b (WasKept true, change x m m.subchannel) (WasKept false, m)) k
+    reacts b k = is_keep m ∙ rw k refl
 
     go : (b : Bool) → is_within x m.storage ≡ b → DoesQuietly e m (WasKept b) (with_storage c (cond b (changed x c.storage) c.storage))
     go true k = record {
-      answers = ap (λ (r : Answer × Machine). r.0) (sym (reacts true k));
+      answers = rw (reacts true k) refl;
       stands = record {
         number = h.number;
         few = h.few;
-        shows = subst (λ (r : Answer × Machine). Shows (with_storage c (changed x c.storage)) r.1 c.subchannel) (sym (reacts true k))
-            (shows_changed c m x c.subchannel h.shows);
+        shows = rw (reacts true k) (shows_changed c m x c.subchannel h.shows);
         sound = stays m e None h.sound;
       };
     }
-    go false k = record {
-      answers = ap (λ (r : Answer × Machine). r.0) (sym (reacts false k));
-      stands =
-          subst (λ (r : Answer × Machine). StandsFor c r.1) (sym (reacts false k)) h;
-    }
+    go false k = record { answers = rw (reacts false k) refl; stands = rw (reacts false k) h }
 
 -- A look at storage.
 
@@ -87,8 +82,8 @@ pub storage_in : (c : ChannelState) (m : Machine) → StandsFor c m → storage_
 storage_in c m h = go c.subchannel h.shows
   where
     go : (s : Subchannel) → Shows c m s → storage_of m m.subchannel ≡ c.storage
-    go Idle k = ap (λ (m : Machine). storage_of m m.subchannel) k.0
-    go (Pending device csw) k = ap (λ (m : Machine). storage_of m m.subchannel) k.0
+    go Idle k = rw k.0 refl
+    go (Pending device csw) k = rw k.0 refl
     go (Working place r) w = storage_there c place r m w h.sound
 
 pub shows_part : (at len : ℕ) (c : ChannelState) (m : Machine) → StandsFor c m
@@ -100,10 +95,7 @@ shows_part at len c m h = record { answers = ap (λ s. Shown (part_of s at len))
 module _ (e : Event) (x : Change) (is_keep : (m : Machine) → react e None m ≡ keep x m) (c : ChannelState) (new : Storage) (kept ok : Bool)
     (within : kept ≡ is_within x c.storage) (becomes : new ≡ cond kept (changed x c.storage) c.storage) (told : ok ≡ kept) where
   pub does_kept : (m : Machine) → StandsFor c m → DoesQuietly e m (WasKept ok) (with_storage c new)
-  does_kept m h =
-      subst (λ s. DoesQuietly e m (WasKept ok) (with_storage c s)) (sym (becomes ∙ ap (λ b. cond b (changed x c.storage) c.storage) within))
-      (subst (λ b. DoesQuietly e m (WasKept b) (with_storage c (cond (is_within x c.storage) (changed x c.storage) c.storage)))
-      (sym (told ∙ within)) (keeps e x is_keep c m h))
+  does_kept m h = rw (becomes, told, within) (keeps e x is_keep c m h)
 
   pub channel_kept : IsChannel c → IsChannel (with_storage c new)
   channel_kept h = record { machine = (react e None h.machine).1; stands = (does_kept h.machine h.stands).stands }
@@ -159,50 +151,24 @@ keys_found (k ∷ ks) block c m l e s =
     let one : Storage = record c.storage { keys = slice_set c.storage.keys block k } in
     let d = keeps (SetKey (2048 * block) k) (KeyOf (2048 * block) k) (λ m. refl) c m s in
     let there : StandsFor (with_storage c one) (react (SetKey (2048 * block) k) None m).1 =
-    subst (λ n. StandsFor (with_storage c (record c.storage { keys = slice_set c.storage.keys n k }))
-    (react (SetKey (2048 * block) k) None m).1) (block_of block)
-    (subst (λ b. StandsFor (with_storage c (cond b (changed (KeyOf (2048 * block) k) c.storage) c.storage))
-    (react (SetKey (2048 * block) k) None m).1)
-    (lt-ltb (2048 * block) (length c.storage.bytes) (within block (length ks) (length c.storage.keys) (length c.storage.bytes) l e))
-    d.stands) in
+    rw (lt-ltb (2048 * block) (length c.storage.bytes) (omega arith), block_of block) at d.stands in
     keys_found ks (block + 1) (with_storage c one) (react (SetKey (2048 * block) k) None m).1
-    (subst (λ n. block + 1 + length ks ≤ n) (sym (length-set c.storage.keys block k)) (more block (length ks) (length c.storage.keys) l))
-    (e ∙ ap (λ n. 2048 * n) (sym (length-set c.storage.keys block k))) there
-  where
-    within : (b n keys bytes : ℕ) → b + suc n ≤ keys → bytes ≡ 2048 * keys → 2048 * b < bytes
-    within b n keys bytes l e = omega (arith, l, e)
-
-    more : (b n keys : ℕ) → b + suc n ≤ keys → b + 1 + n ≤ keys
-    more b n keys l = omega (arith, l)
+    (rw length-set (omega arith)) (rw length-set e) there
 
 pub finds_another : FindsAnother
 finds_another c m s large h =
     let d = keeps (Store 0 s.bytes) (Bytes 0 s.bytes) (λ m. refl) c m h in
     let one : Storage = record c.storage { bytes = s.bytes } in
     let there : StandsFor (with_storage c one) (react (Store 0 s.bytes) None m).1 =
-    subst (λ bytes. StandsFor (with_storage c (record c.storage { bytes = bytes })) (react (Store 0 s.bytes) None m).1)
-    (all_overwritten c.storage.bytes s.bytes large.bytes)
-    (subst (λ b. StandsFor (with_storage c (cond b (changed (Bytes 0 s.bytes) c.storage) c.storage)) (react (Store 0 s.bytes) None m).1)
-    (within_all (length s.bytes) (length c.storage.bytes) large.bytes) d.stands) in
+    rw (within_all (length s.bytes) (length c.storage.bytes) large.bytes, all_overwritten c.storage.bytes s.bytes large.bytes) at
+    d.stands in
     subst (λ keys. StandsFor (with_storage c (record one { keys = keys })) (finding s m)) (all_set c.storage.keys s.keys large.keys)
-    (keys_found s.keys 0 (with_storage c one) (react (Store 0 s.bytes) None m).1
-    (within_keys (length s.keys) (length c.storage.keys) large.keys) (large.blocks ∙ ap (λ n. 2048 * n) large.keys) there)
-  where
-    within_keys : (a b : ℕ) → a ≡ b → 0 + a ≤ b
-    within_keys a b e = omega (arith, e)
+    (keys_found s.keys 0 (with_storage c one) (react (Store 0 s.bytes) None m).1 (omega (arith, large.keys))
+    (large.blocks ∙ ap (λ n. 2048 * n) large.keys) there)
 
 -- what the code asks of two sizes
 blocks_of : (n : ℕ) → is_size n ≡ true → n ≡ 2048 * (n / 2048)
-blocks_of n h = go (nat_le 4096 n) (nat_le n 16777216) (n % 2048 == 0) refl h
-  where
-    whole : (n : ℕ) → n % 2048 ≡ 0 → n ≡ 2048 * (n / 2048)
-    whole n e = omega (arith, e)
-
-    go : (a b c : Bool) → (n % 2048 == 0) ≡ c → (a && b && c) ≡ true → n ≡ 2048 * (n / 2048)
-    go true true true e h = whole n (eqb-true (n % 2048) 0 e)
-    go true true false e h = absurd (cc)
-    go true false c e h = absurd (cc)
-    go false b c e h = absurd (cc)
+blocks_of n h = let e = eqb-true (n % 2048) 0 (and_parts (nat_le 4096 n && nat_le n 16777216) _ h).1 in omega (arith, e)
 
 -- two storages whose sizes are alike; by all that the code has read of both, a premise each
 pub as_large : (s t : Storage) (a b : ℕ) → a ≡ length s.bytes → is_size a ≡ true → length s.keys ≡ a / 2048 → b ≡ length t.bytes

@@ -109,9 +109,8 @@ does_one_more m events given old mid new d e a does calls =
       are_these = map-append (λ (i : Input). i.0) d.inputs (i ∷ []) ∙ ap (λ l. l ++ e ∷ []) d.are_these;
       faults = omega (arith, d.faults, met_counts does.fault a mid new does.met, faults_one_more d.inputs e does.fault);
       met = met_one_more m d.inputs given old mid new i a d.met does.met calls does.stands;
-      same_answers = ap (λ l. l ++ a ∷ []) d.same_answers ∙ ap (λ b. answers d.inputs m ++ b ∷ []) does.answers
-          ∙ sym (answers_one_more d.inputs i m);
-      stands = subst (StandsFor new) (sym (after_one_more d.inputs i m)) does.stands;
+      same_answers = rw (d.same_answers, does.answers, answers_one_more d.inputs i m) refl;
+      stands = rw (after_one_more d.inputs i m) does.stands;
       reported = reported_one_more d.inputs i m d.reported does.reports;
     }
 
@@ -135,10 +134,7 @@ pub goes_on : (m : Machine) (events : List deck_event.Event) (i : ℕ) (d : deck
     → Drove m (map event_seen (take i events)) (map answer_seen given) old mid
     → Drove m (map event_seen (take (i + 1) events)) (map answer_seen (given ++ a ∷ [])) old new
 goes_on m events i d given old mid new a within reacts drove =
-    subst (λ es. Drove m es (map answer_seen (given ++ a ∷ [])) old new) (sym (map_more event_seen events i d within))
-    (subst (λ all. Drove m (map event_seen (take i events) ++ event_seen (get_or events i d) ∷ []) all old new)
-    (sym (map-append answer_seen given (a ∷ [])))
-    (drove_one_more m _ _ old mid new _ _ reacts drove))
+    rw (map_more event_seen events i d within, map-append) (drove_one_more m _ _ old mid new _ _ reacts drove)
 
 -- where no fault is met, the events come without faults
 none_met : (es : List Input) → faults_in es ≡ 0 → es ≡ plain (map (λ i. i.0) es)
@@ -149,7 +145,7 @@ none_met ((e, Some x) ∷ es) h = absurd (omega (arith, h))
 are_plain : (m : Machine) (events : List Event) (given : List Answer) (old new : ChannelState) (d : Drove m events given old new)
     → failures_of new ≡ failures_of old → d.inputs ≡ plain events
 are_plain m events given old new d same =
-    none_met d.inputs (omega (arith, d.faults, same)) ∙ ap plain d.are_these
+    rw d.are_these at (none_met d.inputs (omega (arith, d.faults, same)))
 
 -- what follows from it
 pub drove_follows : (m : Machine) (events : List Event) (given : List Answer) (old new : ChannelState) → StandsFor old m
@@ -181,14 +177,8 @@ room_for_one answers room i events within h = omega (arith, length-drop i events
 
 pub room_for_others : {A : Type 0} (answers room more i : ℕ) (events : List A) → i < length events → answers + length (drop i events) ≤ room
     → room ≤ more → answers + 1 + length (drop (i + 1) events) ≤ more
-room_for_others answers room more i events within h grows = omega (
-  arith,
-  length-drop i events,
-  length-drop (i + 1) events,
-  within,
-  h,
-  grows,
-)
+room_for_others answers room more i events within h grows =
+    omega (arith, length-drop i events, length-drop (i + 1) events, within, h, grows)
 
 pub take_past : {A : Type 0} (i : ℕ) (xs : List A) → length xs ≤ i → take i xs ≡ xs
 take_past i xs h = take_all i xs h

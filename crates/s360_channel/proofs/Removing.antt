@@ -1,7 +1,7 @@
 -- A channel without one of its drives, and one whose drive has another pack.
 use Rattle.std.proofs.Common.{◌≡◌, ℕ, zero, suc, ◌-◌, ◌≤◌, ◌<◌, refl, sym, ap, ◌∙◌, subst, arith, true, false, Bool, cond, ◌==◌, List, []}
-use Rattle.std.proofs.Common.{◌∷◌, map, Option, Some, None, ◌&&◌}
-use Rattle.std.proofs.lemmas.Bool.{eq-eqb, eqb-true, eqb-false, ltb-true, ltb-false}
+use Rattle.std.proofs.Common.{◌∷◌, map, Option, Some, None}
+use Rattle.std.proofs.lemmas.Bool.{and_parts, eq-eqb, eqb-true, eqb-false, ltb-true, ltb-false}
 use Rattle.std.proofs.lemmas.List.{length-set}
 use Rattle.std.proofs.lemmas.List.Edits.{length-remove}
 use Rattle.std.proofs.lemmas.Option.{slice_get_within}
@@ -19,17 +19,14 @@ use Rattle.s360_laws.specs.Machine as machine
 use Rattle.s360_laws.specs.Soundness.{AreDistinct}
 use Rattle.s360_laws.proofs.FindDevices.{Keeps, different, found_map, keeps_one, set_drive, distinct_map}
 use Rattle.s360_channel.specs.Channel.{ChannelState, Shows, StandsFor, WorksFor}
-use Rattle.attached_drives.specs.Drives.{AttachedState, AllRest, OthersRest, device_of, is_at}
-use Rattle.attached_drives.specs.Drives.{new_attached}
+use Rattle.attached_drives.specs.Drives.{AttachedState, AllRest, OthersRest, device_of, is_at, new_attached, fits_drive}
 use Rattle.s360_channel.specs.declared.faults.DetachFault.{DetachFault}
 use Rattle.s360_channel.specs.declared.faults.DetachFault.TheVariants.{NoDrive, ProgramRuns, EndingPends, DeviceEndOwed}
 use Rattle.s360_channel.specs.declared.subchannel.Subchannel.{Subchannel}
 use Rattle.s360_channel.specs.declared.subchannel.Subchannel.TheVariants.{Idle, Working, Pending}
 use Rattle.attached_drives.specs.DriveCalls.{DriveIs, Removes, ExchangesPack, MayExchange}
 use Rattle.s360_channel.specs.Packs.{Detaches, IsFree, GivesBack, is_at_rest, moved_up, pends_for, runs_at, waits_for, why_of, why_stays}
-use Rattle.s360_channel.specs.Packs.{without_device, without_place, works_at, Exchanges, fits_at, volume_in}
-use Rattle.attached_drives.specs.Drives.{fits_drive, is_same_model}
-use Rattle.s360_channel.specs.Packs.{with_pack}
+use Rattle.s360_channel.specs.Packs.{without_device, without_place, works_at, Exchanges, fits_at, volume_in, with_pack}
 use Rattle.s360_channel.proofs.Changing.{SeenBy, seen_by, distinct_drives, device_seen, new_rests, rests_changed, sound_with, volume_given}
 use Rattle.s360_channel.proofs.Changing.{works_changed, changes_apart}
 use Rattle.attached_drives.proofs.Places.{arm_there, changes, devices, false_is_true, found_at, found_by, inside, is_other, none_found}
@@ -56,14 +53,9 @@ none_left_out device (d ∷ ds) h = go (d.device == device) h (none_left_out dev
 devices_left : (us : List AttachedState) (place : ℕ) (u : AttachedState) → AreDistinct (devices us) → slice_get us place ≡ Some u
     → devices (remove us place) ≡ filter (other_than u.device) (devices us)
 devices_left [] place u a h = none_is_some h
-devices_left (w ∷ us) zero u a h = sym (
-    ap (λ b. cond (not b) (device_of w ∷ filter (other_than u.device) (devices us)) (filter (other_than u.device) (devices us)))
-    (ap (λ x. w.device == x.device) (sym (inside w u h)) ∙ same_number w.device)
-    ∙ none_left_out u.device (devices us) (ap (λ x. find (λ d. d.device == x.device) (devices us)) (sym (inside w u h)) ∙ a.0)
-    )
-devices_left (w ∷ us) (suc place) u a h = ap (λ r. device_of w ∷ r) (devices_left us place u a.1 h)
-    ∙ sym (ap (λ b. cond (not b) (device_of w ∷ filter (other_than u.device) (devices us)) (filter (other_than u.device) (devices us)))
-    (is_other w us place u a h))
+devices_left (w ∷ us) zero u a h = subst (λ (x : AttachedState). devices us ≡ filter (other_than x.device) (devices (w ∷ us)))
+    (inside w u h) (rw (same_number w.device) (sym (none_left_out w.device (devices us) a.0)))
+devices_left (w ∷ us) (suc place) u a h = rw (is_other w us place u a h) (ap (λ r. device_of w ∷ r) (devices_left us place u a.1 h))
 
 -- another device is found as it was
 found_left : (device n : ℕ) (ds : List Device) → (n == device) ≡ false → find (λ d. d.device == n) (filter (other_than device) ds)
@@ -74,9 +66,8 @@ found_left device n (d ∷ ds) h = go (d.device == device) refl (found_left devi
     go : (b : Bool) → (d.device == device) ≡ b → find (λ d. d.device == n) (filter (other_than device) ds) ≡ find (λ d. d.device == n) ds
         → find (λ d. d.device == n) (cond (not b) (d ∷ filter (other_than device) ds) (filter (other_than device) ds)) ≡ cond (d.device ==
         n) (Some d) (find (λ d. d.device == n) ds)
-    go true e k = k ∙ sym (ap (λ b. cond b (Some d) (find (λ d. d.device == n) ds))
-        (different d.device n (λ same. eqb-false n device h (sym same ∙ eqb-true d.device device e))))
-    go false e k = ap (λ r. cond (d.device == n) (Some d) r) k
+    go true e k = rw (different d.device n (λ same. eqb-false n device h (sym same ∙ eqb-true d.device device e))) k
+    go false e k = rw k refl
 
 distinct_left : (device : ℕ) (ds : List Device) → AreDistinct ds → AreDistinct (filter (other_than device) ds)
 distinct_left device [] h = tt
@@ -97,7 +88,7 @@ left_through device g k (d ∷ ds) = ap (λ n. cond (not (n == device)) (g d ∷
         → cond (not b) (g d ∷ filter (other_than device) (map g ds)) (filter (other_than device) (map g ds))
         ≡ map g (cond (not b) (d ∷ filter (other_than device) ds) (filter (other_than device) ds))
     go true h = h
-    go false h = ap (λ r. g d ∷ r) h
+    go false h = rw h refl
 
 -- Lists of drives without the one at a place.
 
@@ -132,14 +123,11 @@ stays_at : (us : List AttachedState) (place p : ℕ) (u : AttachedState) → (p 
     → StaysAt us place (cond (nat_lt place p) (p - 1) p) u
 stays_at us place p u e h r = go (nat_lt place p) refl
   where
-    one_less : place < p → p ≡ suc (p - 1)
-    one_less l = omega (arith, l)
-
     go : (b : Bool) → nat_lt place p ≡ b → StaysAt us place (cond b (p - 1) p) u
     go true k =
         let l = ltb-true place p k in
-        behind us place (p - 1) u (omega (arith, l)) (ap (slice_get us) (sym (one_less l))
-        ∙ h) (subst (λ p. OthersRest p us) (one_less l) r)
+        let e : p ≡ suc (p - 1) = omega arith in
+        behind us place (p - 1) u (omega arith) (ap (slice_get us) (sym e) ∙ h) (subst (λ p. OthersRest p us) e r)
     go false k = before us place p u (grind (arith, ltb-false place p k, eqb-false p place e)) h r
 
 -- Which program runs, and which word pends, at the channel and at the machine.
@@ -149,10 +137,9 @@ pub same_places : (us : List AttachedState) (p place : ℕ) (w u : AttachedState
 same_places us p place w u a h k = go (p == place) refl
   where
     go : (b : Bool) → (p == place) ≡ b → (w.device == u.device) ≡ b
-    go true e = ap (λ x. w.device == x.device) (sym (inside w u (sym h ∙ (ap (slice_get us) (eqb-true p place e) ∙ k))))
-        ∙ same_number w.device
+    go true e = rw (inside w u (sym h ∙ ap (slice_get us) (eqb-true p place e) ∙ k)) (same_number u.device)
     go false e = different w.device u.device (λ same. eqb-false p place e (sym (place_at us p w a h)
-        ∙ (ap (λ n. position_or_len (is_at n) us) same ∙ place_at us place u a k)))
+        ∙ ap (λ n. position_or_len (is_at n) us) same ∙ place_at us place u a k))
 
 -- the device at an address, while a program runs
 pub working_device : (c : ChannelState) (p : ℕ) (r : RunningState) (m : Machine) (w : WorksFor c p r m) (device : ℕ)
@@ -186,25 +173,21 @@ module _ (c : ChannelState) (m : Machine) (s : StandsFor c m) (device place : �
   same_runs = go c.subchannel s.shows
     where
       go : (x : Subchannel) → Shows c m x → runs_at device m.subchannel ≡ works_at place x
-      go Idle h = ap (λ (m : Machine). runs_at device m.subchannel) h.0
-      go (Working p r) w = ap (runs_at device) (subchannel_of c p r m w) ∙ (ap (λ n. w.attached.device == n) (sym f.same_device)
-          ∙ same_places c.drives p place w.attached u distinct w.is_there f.is_there)
-      go (Pending d csw) h = ap (λ (m : Machine). runs_at device m.subchannel) h.0
+      go Idle h = rw h.0 refl
+      go (Working p r) w = ap (runs_at device) (subchannel_of c p r m w)
+          ∙ rw (← f.same_device) (same_places c.drives p place w.attached u distinct w.is_there f.is_there)
+      go (Pending d csw) h = rw h.0 refl
 
   pub same_pends : pends_for device m.subchannel ≡ waits_for device c.subchannel
   same_pends = go c.subchannel s.shows
     where
       go : (x : Subchannel) → Shows c m x → pends_for device m.subchannel ≡ waits_for device x
-      go Idle h = ap (λ (m : Machine). pends_for device m.subchannel) h.0
+      go Idle h = rw h.0 refl
       go (Working p r) w = ap (pends_for device) (subchannel_of c p r m w)
-      go (Pending d csw) h = ap (λ (m : Machine). pends_for device m.subchannel) h.0
+      go (Pending d csw) h = rw h.0 refl
 
   pub why_is : why_stays device m ≡ why_by (works_at place c.subchannel) (waits_for device c.subchannel) u.arm
-  why_is =
-      ap (why_of device m.subchannel) (device_seen c m here device (Some (device_of u)) found)
-      ∙ (ap (λ b. why_by b (pends_for device m.subchannel) (here.through (device_of u)).arm) same_runs
-      ∙ (ap (λ b. why_by (works_at place c.subchannel) b (here.through (device_of u)).arm) same_pends
-      ∙ ap (why_by (works_at place c.subchannel) (waits_for device c.subchannel)) (here.arm (device_of u))))
+  why_is = rw (device_seen c m here device (Some (device_of u)) found, same_runs, same_pends, here.arm (device_of u)) refl
 
   -- a device whose program does not run is the drive
   pub device_there : works_at place c.subchannel ≡ false → device_at m device ≡ Some (device_of u)
@@ -213,11 +196,13 @@ module _ (c : ChannelState) (m : Machine) (s : StandsFor c m) (device place : �
       go : (x : Subchannel) → Shows c m x → works_at place x ≡ false → device_at m device ≡ Some (device_of u)
       go Idle h o = ap (λ (m : Machine). device_at m device) h.0 ∙ found
       go (Pending d csw) h o = ap (λ (m : Machine). device_at m device) h.0 ∙ found
-      go (Working p r) w o =
-          working_device c p r m w device ∙ (ap (option_map (changes w.attached.device (set_drive w.drive))) found
-          ∙ ap (λ b. Some (cond b (set_drive w.drive (device_of u)) (device_of u))) (different u.device w.attached.device
-          (λ e. eqb-false p place o (eqb-true p place (sym (same_places c.drives p place w.attached u distinct w.is_there f.is_there)
-          ∙ eq-eqb w.attached.device u.device (sym e))))))
+      go (Working p r) w o = rw (
+        working_device c p r m w device,
+        found,
+        different u.device w.attached.device (λ e. eqb-false p place o
+            (eqb-true p place (sym (same_places c.drives p place w.attached u distinct w.is_there f.is_there)
+            ∙ eq-eqb w.attached.device u.device (sym e)))),
+      ) refl
 
   -- and its drive rests
   pub rests_there : works_at place c.subchannel ≡ false → Rests u.drive
@@ -269,10 +254,8 @@ module _ (c : ChannelState) (m : Machine) (s : StandsFor c m) (device place : �
 
   shows_left : (x : Subchannel) → Shows c m x → works_at place x ≡ false → Shows (without_place place c) (without_device device m)
       (moved_up place x)
-  shows_left Idle h o = rests_changed c m (remove c.drives place) (filter (other_than device)) left machine.Idle h.0
-      (all_left c.drives place h.1)
-  shows_left (Pending d csw) h o = rests_changed c m (remove c.drives place) (filter (other_than device)) left (machine.Pending d csw) h.0
-      (all_left c.drives place h.1)
+  shows_left Idle h o = rests_changed c m _ (filter (other_than device)) left machine.Idle h.0 (all_left c.drives place h.1)
+  shows_left (Pending d csw) h o = rests_changed c m _ (filter (other_than device)) left _ h.0 (all_left c.drives place h.1)
   shows_left (Working p r) w o =
       let stays = stays_at c.drives place p w.attached o w.is_there w.others in
       works_changed c m (remove c.drives place) (filter (other_than device)) left (moved_up place c.subchannel) p _ r w
@@ -294,12 +277,7 @@ module _ (c : ChannelState) (m : Machine) (s : StandsFor c m) (device place : �
       → Detaches device m image c (record c { subchannel = subchannel; drives = drives })
   detaches subchannel drives image sub r =
       let same : r.attached ≡ f.attached = inside r.attached f.attached (sym r.was ∙ f.is_there) in
-      let now : record c { subchannel = subchannel; drives = drives } ≡ without_place place c =
-      ap (λ x. record c { subchannel = x; drives = drives }) sub ∙ ap (λ us. record c {
-        subchannel = moved_up place c.subchannel;
-        drives =
-            us;
-      }) r.becomes in
+      let now : record c { subchannel = subchannel; drives = drives } ≡ without_place place c = rw (sub, r.becomes) refl in
       record {
         free = is_free;
         place = place;
@@ -320,11 +298,8 @@ module _ (c : ChannelState) (m : Machine) (s : StandsFor c m) (device : ℕ) whe
   module _ (place : ℕ) (h : position (is_at device) c.drives ≡ Some place) where
     why : why_stays device m ≡ why_by (works_at place c.subchannel) (waits_for device c.subchannel)
         (found_by device c.drives place h).attached.arm
-    why = let f = found_by device c.drives place h in why_is c m s device place f.attached (record {
-      is_there = f.is_there;
-      same_device =
-          f.same_device;
-    })
+    why = let f = found_by device c.drives place h in
+        why_is c m s device place f.attached (record { is_there = f.is_there; same_device = f.same_device })
 
     pub why_runs : works_at place c.subchannel ≡ true → why_stays device m ≡ Some ProgramRuns
     why_runs a = rw a at why
@@ -364,20 +339,12 @@ found_other device n f k (d ∷ ds) h = go (d.device == device) refl (found_othe
     go : (b : Bool) → (d.device == device) ≡ b → find (λ d. d.device == n) (map (changes device f) ds) ≡ find (λ d. d.device == n) ds
         → cond ((cond b (f d) d).device == n) (Some (cond b (f d) d)) (find (λ d. d.device == n) (map (changes device f) ds))
         ≡ cond (d.device == n) (Some d) (find (λ d. d.device == n) ds)
-    go true e r =
-        let off : (d.device == n) ≡ false = different d.device n (λ same. eqb-false n device h (sym same ∙ eqb-true d.device device e)) in
-        ap (λ b. cond b (Some (f d)) (find (λ d. d.device == n) (map (changes device f) ds))) (ap (λ x. x == n) (k d) ∙ off)
-        ∙ (r ∙ sym (ap (λ b. cond b (Some d) (find (λ d. d.device == n) ds)) off))
-    go false e r = ap (λ r. cond (d.device == n) (Some d) r) r
+    go true e r = rw (k d, different d.device n (λ same. eqb-false n device h (sym same ∙ eqb-true d.device device e))) r
+    go false e r = rw r refl
 
 -- a pack that fits has slots as large
 same_size : (held other : Geometry) → true ≡ fits_drive held other → other.track_size ≡ held.track_size
-same_size held other h = sym (eqb-true held.track_size other.track_size (second (is_same_model held.model other.model) (held.track_size ==
-    other.track_size) h))
-  where
-    second : (a b : Bool) → true ≡ (a && b) → b ≡ true
-    second true b h = sym h
-    second false b h = absurd (cc)
+same_size held other h = sym (eqb-true held.track_size other.track_size (and_parts _ _ (sym h)).1)
 
 -- A channel one of whose drives, which was free, is another, of the same address.
 
@@ -399,8 +366,7 @@ module _ (c : ChannelState) (m : Machine) (s : StandsFor c m) (device place : �
   shows_changed : (x : Subchannel) → Shows c m x → works_at place x ≡ false
       → Shows (record c { drives = drives_now }) (with_device device g m) x
   shows_changed Idle h o = rests_changed c m drives_now change now machine.Idle h.0 (all_set c.drives place this h.1 rests)
-  shows_changed (Pending d csw) h o = rests_changed c m drives_now change now (machine.Pending d csw) h.0
-      (all_set c.drives place this h.1 rests)
+  shows_changed (Pending d csw) h o = rests_changed c m drives_now change now _ h.0 (all_set c.drives place this h.1 rests)
   shows_changed (Working p r) w o = works_changed c m drives_now change now c.subchannel p p r w (record {
     attached = w.attached;
     is_there = get_other c.drives place p this (eqb-false p place o) ∙ w.is_there;
@@ -416,7 +382,7 @@ module _ (c : ChannelState) (m : Machine) (s : StandsFor c m) (device place : �
   pub stands_changed : StandsFor (record c { drives = drives_now }) (with_device device g m)
   stands_changed = record {
     number = s.number;
-    few = subst (λ n. n ≤ 8) (sym (length-set c.drives place this)) s.few;
+    few = rw length-set s.few;
     shows = shows_changed c.subchannel s.shows f.runs;
     sound = sound_with m device (change m.devices) (distinct_map (changes device g) (keeps_one device g keeps) m.devices s.sound.0)
         (λ n. found_other device n g keeps m.devices) (off c m s device place f)
@@ -450,19 +416,14 @@ module _ (c : ChannelState) (m : Machine) (s : StandsFor c m) (device place : �
   pub fits_is : (b : Bool) (geometry : Geometry) → geometry ≡ image.geometry
       → Some b ≡ option_map (λ (u : AttachedState). fits_drive u.drive.state.volume.geometry geometry) (slice_get c.drives place)
       → fits_at device image m ≡ Some b
-  fits_is b geometry e h = ap (option_map (λ (d : Device). fits_drive d.drive.volume.geometry image.geometry))
-      (device_there c m s device place f.attached (attached c m s device place f) f.runs)
-      ∙ sym (h ∙ ap (option_map (λ (u : AttachedState). fits_drive u.drive.state.volume.geometry geometry)) f.is_there
-      ∙ ap (λ g. Some (fits_drive f.attached.drive.state.volume.geometry g)) e)
+  fits_is b geometry e h = rw (device_there c m s device place f.attached (attached c m s device place f) f.runs)
+      (sym (rw (f.is_there, e) at h))
 
   pub exchanges : (drives : List AttachedState) (before : ImageState) → fits_at device image m ≡ Some true
       → ExchangesPack place image before c.drives drives → Exchanges device m image before c (record c { drives = drives })
   exchanges drives before fits r =
       let same : r.attached ≡ f.attached = inside r.attached f.attached (sym r.was ∙ f.is_there) in
-      let placed : drives ≡ slice_set c.drives place this =
-      r.becomes ∙ ap (λ (u : AttachedState). slice_set c.drives place (record u { drive = this.drive })) same
-      ∙ ap (λ n. slice_set c.drives place (record (new_attached n image) { arm = f.attached.arm })) f.same_device
-      ∙ ap (λ a. slice_set c.drives place (record this { arm = a })) f.arm in
+      let placed : drives ≡ slice_set c.drives place this = rw (r.becomes, same, f.same_device, f.arm) refl in
       record {
         free = is_free c m s device place f;
         fits = fits;

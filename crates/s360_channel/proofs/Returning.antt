@@ -1,7 +1,7 @@
 -- What was saved of a machine comes back.
-use Rattle.std.proofs.Common.{◌≡◌, ℕ, ◌-◌, ◌∙◌, ap, refl, sym, subst, ◌==◌, Bool, true, false, cond}
+use Rattle.std.proofs.Common.{◌≡◌, ℕ, ◌-◌, ◌∙◌, ap, refl, sym, ◌==◌, Bool, true, false, cond}
 use Rattle.std.proofs.Common.{List, [], ◌∷◌, ◌++◌, map, length, Option, Some, None}
-use Rattle.std.proofs.lemmas.Bool.{eq-eqb, eqb-true}
+use Rattle.std.proofs.lemmas.Bool.{eq-eqb}
 use Rattle.std.specs.Prelude.{find, option_map, replicate}
 use Rattle.s360_words.specs.Storage.{Storage}
 use Rattle.s360_words.specs.declared.words.Csw.{Csw}
@@ -18,7 +18,7 @@ use Rattle.attached_drives.specs.declared.drives_saved.SavedDrive.{SavedDrive}
 use Rattle.s360_channel.specs.declared.saving.SavedChannel.{SavedChannel}
 use Rattle.s360_channel.specs.declared.subchannel.Subchannel.{Subchannel}
 use Rattle.s360_channel.specs.declared.subchannel.Subchannel.TheVariants.{Idle, Working, Pending}
-use Rattle.attached_drives.proofs.Places.{inside, none_is_some}
+use Rattle.attached_drives.proofs.Places.{false_is_true, inside, none_is_some}
 use Rattle.s360_channel.proofs.Works.{subchannel_of}
 
 abbrev with_drives : Machine → Option (ℕ × Csw) → SavedChannel
@@ -47,25 +47,18 @@ behind : (d : Device) (entries : List (Option (ℕ × SavedDrive))) (ds : List D
     → Finds entries ds → Finds (one d ∷ entries) ds
 behind d entries [] none h = tt
 behind d entries (w ∷ ds) none h =
-    let k = go (w.device == d.device) refl none in (
-      ap (λ b. cond b (Some (saved_drive d)) (entry w.device entries)) (different d.device w.device (λ e. k.0 (sym e))) ∙ h.0,
-      behind d entries ds k.1 h.1,
-    )
+    let k = go (w.device == d.device) refl none in
+    (rw (different d.device w.device (λ e. k.0 (sym e))) h.0, behind d entries ds k.1 h.1)
   where
     go : (b : Bool) → (w.device == d.device) ≡ b → cond b (Some w) (find (λ o. o.device == d.device) ds) ≡ None
         → (w.device ≡ d.device → ⊥) × (find (λ o. o.device == d.device) ds ≡ None)
     go true e n = none_is_some (sym n)
-    go false e n = ((λ same. false_here (sym e ∙ eq-eqb w.device d.device same)), n)
-      where
-        false_here : false ≡ true → ⊥
-        false_here h = absurd (cc)
+    go false e n = ((λ same. false_is_true (sym e ∙ eq-eqb w.device d.device same)), n)
 
 finds_all : (ds : List Device) (rest : List (Option (ℕ × SavedDrive))) → AreDistinct ds → Finds (map one ds ++ rest) ds
 finds_all [] rest a = tt
-finds_all (d ∷ ds) rest a = (
-  ap (λ b. cond b (Some (saved_drive d)) (entry d.device (map one ds ++ rest))) (eq-eqb d.device d.device refl),
-  behind d (map one ds ++ rest) ds a.0 (finds_all ds rest a.1),
-)
+finds_all (d ∷ ds) rest a =
+    (rw (eq-eqb d.device d.device refl) refl, behind d (map one ds ++ rest) ds a.0 (finds_all ds rest a.1))
 
 -- so each device that is mounted as it was becomes it
 devices_return : (entries : List (Option (ℕ × SavedDrive))) (ds es : List Device) → Finds entries ds → AreMountedAs ds es
@@ -92,17 +85,10 @@ comes_back m other saved e a k = go m.subchannel refl e
     devices = devices_return entries m.devices other.devices (finds_all m.devices (replicate (8 - length m.devices) None) a) k.devices
 
     -- by what pends
-    by : (p : Option (ℕ × Csw)) → machine_subchannel p ≡ m.subchannel → ◌≡◌ {A = Option SavedChannel} (Some (record {
-      pending = p;
-      drives = entries;
-    })) (Some saved) → machine_back saved other ≡ m
-    by p same is =
-        subst (λ v. machine_back v other ≡ m) (inside _ _ is) (λ i. record {
-          channel = k.channel i;
-          storage = k.storage i;
-          subchannel = same i;
-          devices = devices i;
-        })
+    by : (p : Option (ℕ × Csw)) → machine_subchannel p ≡ m.subchannel
+        → Some (record { pending = p; drives = entries }) ≡ Some saved → machine_back saved other ≡ m
+    by p same is = rw (← inside _ _ is)
+        (λ i. record { channel = k.channel i; storage = k.storage i; subchannel = same i; devices = devices i })
 
     go : (x : machine.Subchannel) → m.subchannel ≡ x
         → option_map (with_drives m) (pending_in x) ≡ Some saved → machine_back saved other ≡ m

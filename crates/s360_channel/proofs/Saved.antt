@@ -1,9 +1,9 @@
 -- A channel that is put back as it was saved stands for the machine that is.
-use Rattle.std.proofs.Common.{◌≡◌, ◌<◌, ◌≤◌, ℕ, ◌+◌, ◌∷◌, [], ◌∙◌, ap, refl, sym, subst}
+use Rattle.std.proofs.Common.{◌≡◌, ◌<◌, ◌≤◌, ℕ, ◌+◌, ◌∷◌, [], refl, subst}
 use Rattle.std.proofs.Common.{◌==◌, ◌&&◌, Bool, true, false, cond, List, map, length, Option, Some, None}
 use Rattle.std.proofs.lemmas.Bool.{and_parts, eqb-true}
 use Rattle.std.proofs.lemmas.List.{length-map}
-use Rattle.std.specs.Prelude.{find, is_some, not, option_map, position}
+use Rattle.std.specs.Prelude.{find, is_some, not, position}
 use Rattle.s360_words.specs.Storage.{Storage}
 use Rattle.s360_words.specs.declared.words.Csw.{Csw}
 use Rattle.s360_words.specs.declared.flags.TheConstants.UnitStatus.{CHANNEL_END, DEVICE_END}
@@ -17,13 +17,10 @@ use Rattle.s360_laws.specs.declared.arm.Arm.TheVariants.{AtRest, InMotion, Arriv
 use Rattle.s360_laws.proofs.FindDevices.{Keeps, distinct_map, found_map}
 use Rattle.s360_channel.specs.Channel.{ChannelState, Shows, StandsFor, machine_of}
 use Rattle.attached_drives.specs.Drives.{AllRest, AttachedState, device_of, is_at}
-use Rattle.s360_channel.specs.Saves.{are_same_drives, device_back}
-use Rattle.attached_drives.specs.Saved.{drive_back, drives_back}
-use Rattle.s360_channel.specs.Saves.{is_ending, is_ending_of, is_working}
-use Rattle.attached_drives.specs.Saved.{entry, have_tracks}
-use Rattle.s360_channel.specs.Saves.{machine_back, may_pend, owes, put_back, subchannel_back, why_not_back}
+use Rattle.s360_channel.specs.Saves.{are_same_drives, device_back, is_ending, is_ending_of, is_working, machine_back, may_pend, owes}
+use Rattle.s360_channel.specs.Saves.{put_back, subchannel_back, why_not_back}
+use Rattle.attached_drives.specs.Saved.{drive_back, drives_back, entry, have_tracks}
 use Rattle.s360_channel.specs.Selector.{IsSelector, SelectorState, over}
-use Rattle.s360_channel.specs.declared.faults.SavedFault.{SavedFault}
 use Rattle.s360_channel.specs.declared.faults.SavedFault.TheVariants.{ProgramRuns, OtherDrives, NoSuchTrack, NotOwed}
 use Rattle.attached_drives.specs.declared.drives_saved.SavedDrive.{SavedDrive}
 use Rattle.s360_channel.specs.declared.saving.SavedChannel.{SavedChannel}
@@ -71,9 +68,7 @@ keeps entries d = go (entry d.device entries)
 devices_back : (entries : List (Option (ℕ × SavedDrive))) (us : List AttachedState) → map (changed entries) (devices us)
     ≡ devices (drives_back entries us)
 devices_back entries [] = refl
-devices_back entries (u ∷ us) =
-    ap (λ d. d ∷ map (changed entries) (devices us)) (go (entry u.device entries))
-    ∙ ap (λ ds. device_of (drive_back (entry u.device entries) u) ∷ ds) (devices_back entries us)
+devices_back entries (u ∷ us) = rw (go (entry u.device entries), devices_back entries us) refl
   where
     go : (o : Option SavedDrive) → device_back o (device_of u) ≡ device_of (drive_back o u)
     go None = refl
@@ -108,10 +103,9 @@ owed_back entries us device csw at ends = by_place (position (is_at device) us) 
     by_place None h e = false_is_true e
     by_place (Some place) h e =
         let f = found_by device us place h in
-        let found = found_map (λ n. n == device) (changed entries) (keeps entries) (devices us)
-        ∙ ap (option_map (changed entries)) f.found in
-        subst (λ o. (tells csw.unit CHANNEL_END ≡ true) × (cond (tells csw.unit DEVICE_END) 1 0 + device_owes o ≡ 1)) (sym found)
-        (by_entry f.attached (entry f.attached.device entries) (ap (λ n. is_ending_of csw (entry n entries)) f.same_device ∙ ends))
+        let ends_there = rw (← f.same_device) at ends in
+        rw (found_map (λ n. n == device) (changed entries) (keeps entries) (devices us), f.found)
+        (by_entry f.attached (entry f.attached.device entries) ends_there)
 
 -- The channel.
 
@@ -140,16 +134,16 @@ module _ (saved : SavedChannel) (c : SelectorState) (s : Storage) (k : IsClear s
           → StandsFor (over (put_back (record saved { pending = p }) c) s) (machine_back (record saved { pending = p }) (before x))
       go None h = record {
         number = number;
-        few = subst (λ n. n ≤ 8) (sym (length-map c.drives (λ u. drive_back (entry u.device saved.drives) u))) few;
-        shows = (ap (λ ds. record (before machine.Idle) { devices = ds }) same_devices, rested);
+        few = rw length-map few;
+        shows = (rw same_devices refl, rested);
         sound = (apart, tt);
       }
       go (Some p) h =
           let both = and_parts _ _ h in
           record {
             number = number;
-            few = subst (λ n. n ≤ 8) (sym (length-map c.drives (λ u. drive_back (entry u.device saved.drives) u))) few;
-            shows = (ap (λ ds. record (before (machine.Pending p.0 p.1)) { devices = ds }) same_devices, rested);
+            few = rw length-map few;
+            shows = (rw same_devices refl, rested);
             sound = (apart, owed_back saved.drives c.drives p.0 p.1 both.0 both.1);
           }
 
@@ -158,9 +152,7 @@ module _ (saved : SavedChannel) (c : SelectorState) (s : Storage) (k : IsClear s
     where
       by_shown : (x : machine.Subchannel) → m ≡ before x → AllRest c.drives
           → StandsFor (over (put_back saved c) s) (machine_back saved m)
-      by_shown x e r =
-          subst (λ m. StandsFor (over (put_back saved c) s) (machine_back saved m)) (sym e)
-          (stands_now x st.number st.few r (subst (λ (m : Machine). AreDistinct m.devices) e st.sound.0))
+      by_shown x e r = rw e (stands_now x st.number st.few r (subst (λ (m : Machine). AreDistinct m.devices) e st.sound.0))
 
       go : (x : Subchannel) → is_working x ≡ false → Shows (over c s) m x
           → StandsFor (over (put_back saved c) s) (machine_back saved m)
@@ -196,10 +188,7 @@ ending_is csw arm = go (tells csw.unit CHANNEL_END) (tells csw.unit DEVICE_END) 
 pub there : (saved : SavedChannel) (c : SelectorState) (s : Storage) (m : Machine) (subchannel : Subchannel) (drives : List AttachedState)
     → subchannel ≡ subchannel_back saved.pending → drives ≡ drives_back saved.drives c.drives → IsClear saved c → StandsFor (over c s) m
     → StandsFor (over (record c { subchannel = subchannel; drives = drives }) s) (machine_back saved m)
-there saved c s m subchannel drives e f k st =
-    subst (λ x. StandsFor (over (record c { subchannel = x; drives = drives }) s) (machine_back saved m)) (sym e)
-    (subst (λ us. StandsFor (over (record c { subchannel = subchannel_back saved.pending; drives = us }) s) (machine_back saved m)) (sym f)
-    (stands_back saved c s k m st))
+there saved c s m subchannel drives e f k st = rw (e, f) (stands_back saved c s k m st)
 
 -- so it is a selector as before
 pub selector_back : (saved : SavedChannel) (c : SelectorState) → IsSelector c → why_not_back saved c ≡ None → IsSelector (put_back saved c)

@@ -1,10 +1,10 @@
 -- What a channel shows of itself, of its drives and of the program that runs is what the machine has that it stands for.
-use Rattle.std.proofs.Common.{◌≡◌, ◌<◌, ◌≤◌, arith, ℕ, ◌-◌, refl, sym, ap, subst, ◌∙◌, true, false, Bool, cond, ◌==◌, List, [], ◌∷◌, ◌++◌}
+use Rattle.std.proofs.Common.{◌≡◌, ◌<◌, ℕ, refl, sym, ap, subst, ◌∙◌, true, false, Bool, cond, ◌==◌, List, [], ◌∷◌}
 use Rattle.std.proofs.Common.{map, length, Option, Some, None}
 use Rattle.std.proofs.lemmas.Bool.{eqb-true, eqb-false}
 use Rattle.std.proofs.lemmas.List.{length-map}
 use Rattle.std.proofs.lemmas.Option.{slice_get_within}
-use Rattle.std.specs.Prelude.{is_some, option_map, replicate, slice_get, find, filter, position}
+use Rattle.std.specs.Prelude.{is_some, option_map, slice_get, find, filter, position}
 use Rattle.s360_words.specs.declared.words.Csw.{Csw}
 use Rattle.s360_words.specs.Storage.{Storage}
 use Rattle.ckd_image.specs.Image.{ImageState}
@@ -76,8 +76,7 @@ one d = Some (d.device, d.arm)
 same_seen : (device : ℕ) (drive : IdleDrive) (ds : List Device) → map one (map (λ d. cond (d.device == device) (set_drive drive d) d) ds)
     ≡ map one ds
 same_seen device drive [] = refl
-same_seen device drive (d ∷ ds) = ap (λ x. x ∷ map one (map (λ d. cond (d.device == device) (set_drive drive d) d) ds)) (go (d.device ==
-    device)) ∙ ap (λ r. one d ∷ r) (same_seen device drive ds)
+same_seen device drive (d ∷ ds) = rw (go (d.device == device), same_seen device drive ds) refl
   where
     go : (b : Bool) → one (cond b (set_drive drive d) d) ≡ one d
     go true = refl
@@ -87,24 +86,18 @@ pub drives_shown : (c : ChannelState) (m : Machine) → StandsFor c m → drives
 drives_shown c m h = go c.subchannel h.shows
   where
     go : (s : Subchannel) → Shows c m s → drives_seen (map device_of c.drives) ≡ drives_seen m.devices
-    go code.Idle k = ap (λ (m : Machine). drives_seen m.devices) (sym k.0)
-    go (code.Pending device csw) k = ap (λ (m : Machine). drives_seen m.devices) (sym k.0)
-    go (code.Working place r) w =
-        sym (ap drives_seen (devices_of c place r m w)
-        ∙ ap (λ xs. xs ++ replicate (8 - length (map (λ d. cond (d.device == w.attached.device) (set_drive w.drive d) d)
-        (map device_of c.drives))) None) (same_seen w.attached.device w.drive (map device_of c.drives))
-        ∙ ap (λ n. map one (map device_of c.drives) ++ replicate (8 - n) None) (length-map (map device_of c.drives) (λ d. cond (d.device ==
-        w.attached.device) (set_drive w.drive d) d)))
+    go code.Idle k = rw k.0 refl
+    go (code.Pending device csw) k = rw k.0 refl
+    go (code.Working place r) w = sym (rw (
+      devices_of c place r m w,
+      same_seen w.attached.device w.drive (map device_of c.drives),
+      length-map,
+    ) refl)
 
 pub view_from : (c : ChannelState) (m : Machine) → StandsFor c m → (s : SubchannelView) (drives : List (Option (ℕ × Arm)))
     → s ≡ subchannel_seen m m.subchannel → drives ≡ drives_seen (map device_of c.drives)
     → ◌≡◌ {A = View} (record { subchannel = s; drives = drives }) (view_of m)
-view_from c m h s drives e f =
-    ap (λ s. record { subchannel = s; drives = drives }) e ∙ ap (λ (drives : List (Option (ℕ × Arm))). record {
-      subchannel =
-          subchannel_seen m m.subchannel;
-      drives = drives;
-    }) (f ∙ drives_shown c m h)
+view_from c m h s drives e f = rw (e, f, drives_shown c m h) refl
 
 -- the place of the drive that works
 pub place_there : (c : ChannelState) (m : Machine) (place : ℕ) (r : RunningState) → StandsFor c m → c.subchannel ≡ code.Working place r
@@ -124,7 +117,7 @@ device_with device us = go (position (is_at device) us) refl
     go : (x : Option ℕ) → position (is_at device) us ≡ x → option_map device_of (attached_in x us) ≡ find (λ d. d.device ==
         device) (devices us)
     go None h = sym (none_found device us h)
-    go (Some place) h = let f = found_by device us place h in ap (option_map device_of) f.is_there ∙ sym f.found
+    go (Some place) h = let f = found_by device us place h in rw (f.is_there, f.found) refl
 
 -- a device whose program does not run is the drive with its address
 pub device_is : (c : ChannelState) (m : Machine) (device : ℕ) → StandsFor c m → runs_at device m.subchannel ≡ false
@@ -134,12 +127,11 @@ device_is c m device s off = go c.subchannel s.shows
     through : (n : ℕ) (g : Device → Device) (x : Option Device) → Has (λ d. d.device == device) x → (n == device) ≡ false
         → option_map (λ d. cond (d.device == n) (g d) d) x ≡ x
     through n g None h o = refl
-    through n g (Some d) h o =
-        ap (λ b. Some (cond b (g d) d)) (different d.device n (λ e. eqb-false n device o (sym e ∙ eqb-true d.device device h)))
+    through n g (Some d) h o = rw (different d.device n (λ e. eqb-false n device o (sym e ∙ eqb-true d.device device h))) refl
 
     go : (x : Subchannel) → Shows c m x → device_at m device ≡ option_map device_of (attached_with device c.drives)
-    go Idle h = ap (λ (m : Machine). device_at m device) h.0 ∙ sym (device_with device c.drives)
-    go (Pending d csw) h = ap (λ (m : Machine). device_at m device) h.0 ∙ sym (device_with device c.drives)
+    go Idle h = rw (h.0, device_with device c.drives) refl
+    go (Pending d csw) h = rw (h.0, device_with device c.drives) refl
     go (Working p r) w =
         working_device c p r m w device
         ∙ through w.attached.device (set_drive w.drive) (find (λ d. d.device == device) (devices c.drives)) (has_found (λ d. d.device ==
@@ -180,10 +172,7 @@ lends_volume c m device place d image s h e same geometry slots =
     shows_volume c m device (Some image) s (λ off.
     let rests = subst Rests (sym is) (rests_there c m s device place f.attached attached
     (sym (same_runs c m s device place f.attached attached) ∙ off)) in
-    ap Some (volume_given d image same geometry (slots rests.idle rests.unwritten))
-    ∙ (ap (λ (d : DriveState). Some d.state.volume) is
-    ∙ sym (ap (λ x. option_map (λ (u : AttachedState). u.drive.state.volume) (attached_in x c.drives)) h
-    ∙ ap (option_map (λ (u : AttachedState). u.drive.state.volume)) f.is_there)))
+    rw (h, f.is_there, volume_given d image same geometry (slots rests.idle rests.unwritten), is) refl)
 
 -- Interruptions.
 
@@ -211,7 +200,7 @@ pub working_interrupts : (c : ChannelState) (m : Machine) (place : ℕ) (r : Run
 working_interrupts c m place r asked s e told =
     let w = subst (Shows c m) e s.shows in
     told w ∙ sym (ap (λ x. is_interruption (interrupt m x).0) (subchannel_of c place r m w)
-    ∙ (interrupts_program w.attached.device w.script m _ ∙ ap (λ o. is_some (asked_by o)) (seen_there c place r m w s.sound)))
+    ∙ rw (interrupts_program, seen_there c place r m w s.sound) refl)
 
 -- What is seen of a program that runs is read off its run.
 

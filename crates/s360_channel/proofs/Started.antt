@@ -23,7 +23,7 @@ use Rattle.s360_program.specs.Starting.{IsBad, IsRejected, IsImmediate, IsAccept
 use Rattle.s360_laws.specs.declared.arm.Arm.{Arm}
 use Rattle.s360_laws.specs.declared.arm.Arm.TheVariants.{InMotion, AtRest, Arrived}
 use Rattle.s360_laws.specs.declared.condition.ConditionCode.TheVariants as code
-use Rattle.s360_laws.specs.Events.{Answer, StatusStored, WithCode, Interrupted}
+use Rattle.s360_laws.specs.Events.{Answer, WithCode, Interrupted}
 use Rattle.s360_laws.specs.Machine.{Machine, Device, started, start_of, arm_after, with_device, start_device, test_device, device_at}
 use Rattle.s360_laws.specs.Machine.{csw_of_unit, with_arm, lower, lowest, has_arrived, interrupt_device}
 use Rattle.s360_laws.specs.Machine as machine
@@ -66,7 +66,7 @@ module _ (number : ℕ) (s : Storage) (us : List AttachedState) (place : ℕ) (u
   here How us' e =
       let same : e.attached ≡ u = inside e.attached u (sym e.was ∙ there) in record {
         drive = e.drive;
-        becomes = e.becomes ∙ ap (λ (v : AttachedState). slice_set us place (record v { drive = e.drive })) same;
+        becomes = rw same at e.becomes;
         how = subst (λ (v : AttachedState). How v.drive e.drive) same e.how;
       }
 
@@ -79,7 +79,7 @@ module _ (number : ℕ) (s : Storage) (us : List AttachedState) (place : ℕ) (u
   starts_bad caw sub answer us' s' idle word e is stored =
       let h = here (Starts caw s start.Bad) us' e in
       let bad = subst (λ caw. IsBad (record { caw = caw; storage = s; drive = drive_of u.drive.state }) u.drive h.drive) word h.how.0 in
-      let same : us' ≡ us = h.becomes ∙ ap (λ d. slice_set us place (record u { drive = d })) bad.drive ∙ set_same us place u there in
+      let same : us' ≡ us = h.becomes ∙ rw (bad.drive, set_same us place u there) refl in
       rw (idle, is, stored, same, bad.first) (record { answers = refl; shows = (refl, rest) })
 
   -- a command that is rejected
@@ -94,11 +94,7 @@ module _ (number : ℕ) (s : Storage) (us : List AttachedState) (place : ℕ) (u
       rw (idle, is, stored, h.becomes, rejected.first) (record {
         answers = refl;
         shows = (
-          ap (λ ds. record (idle_machine number s' us) {
-            storage = changed (status_stored UNIT_CHECK.0 no_channel_status.0) s;
-            devices =
-                ds;
-          }) (sym (devices_set us place u (record u { drive = h.drive }) (set_drive (drive_of h.drive.state)) distinct there refl)),
+          rw (devices_set us place u (record u { drive = h.drive }) (set_drive (drive_of h.drive.state)) distinct there refl) refl,
           all_set us place (record u { drive = h.drive }) rest rejected.rests,
         );
       })
@@ -119,24 +115,18 @@ module _ (number : ℕ) (s : Storage) (us : List AttachedState) (place : ℕ) (u
       let same : a.attached ≡ record u { drive = h.drive } = inside a.attached (record u { drive = h.drive }) (sym a.was
       ∙ (ap (λ us. slice_get us place) h.becomes ∙ get_set us place u (record u { drive = h.drive }) there)) in
       let in_place : us'' ≡ slice_set us place new =
-      a.becomes ∙ ap (λ (v : AttachedState). slice_set us' place (record v { arm = arm })) same
-      ∙ ap (λ us. slice_set us place new) h.becomes ∙ set_twice us place (record u { drive = h.drive }) new in
+      a.becomes ∙ rw same (ap (λ us. slice_set us place new) h.becomes ∙ set_twice us place (record u { drive = h.drive }) new) in
       let same_channel : channel ≡ i.ending.csw.channel = channel_is ∙ sym i.channel in
       let same_device : device_of new ≡ set_both (arm_after i.ending) i.ending.drive (device_of u) =
-      ap (λ arm. record (device_of u) { arm = arm; drive = drive_of h.drive.state }) (arm_is
-      ∙ ap (λ b. if b then InMotion else AtRest) (sym i.motion))
-      ∙ ap (λ x. record (device_of u) { arm = arm_after i.ending; drive = x }) i.drive.drive in
+      rw (arm_is, i.motion, i.drive.drive) refl in
       rw (idle, is, stored, in_place, i.first) (record {
-        answers = ap (λ unit. StatusStored unit channel) (sym i.unit) ∙ ap (StatusStored i.ending.csw.unit) same_channel;
+        answers = rw (i.unit, same_channel) refl;
         shows = (
-          ap (λ s. record (idle_machine number s us) {
-            devices = map (changes u.device (set_both (arm_after i.ending) i.ending.drive))
-                (devices us);
-          })
-              (ap (λ unit. changed (status_stored unit.0 i.ending.csw.channel.0) s) i.unit
-              ∙ ap (λ channel. changed (status_stored told.unit.0 channel.0) s) (sym same_channel))
-              ∙ ap (λ ds. record (idle_machine number (changed (status_stored told.unit.0 channel.0) s) us) { devices = ds })
-              (sym (devices_set us place u new (set_both (arm_after i.ending) i.ending.drive) distinct there same_device)),
+          rw (
+            devices_set us place u new (set_both (arm_after i.ending) i.ending.drive) distinct there same_device,
+            same_channel,
+            i.unit,
+          ) refl,
           all_set us place new rest i.drive.rests,
         );
       })
@@ -183,14 +173,11 @@ module _ (number : ℕ) (s : Storage) (us : List AttachedState) (place : ℕ) (u
 pub started_images : (us : List AttachedState) (place caw : ℕ) (s : Storage) (answer : _) (us' : List AttachedState)
     → DriveChanges place (Starts caw s answer) us us'
     → map (λ (u : AttachedState). u.drive.image) us' ≡ map (λ (u : AttachedState). u.drive.image) us
-started_images us place caw s answer us' e =
-    ap (map (λ (u : AttachedState). u.drive.image)) e.becomes ∙ map_same (λ (u : AttachedState). u.drive.image) us place e.attached
-    (record e.attached { drive = e.drive }) e.was e.how.1.image
+started_images us place caw s answer us' e = rw e.becomes (map_same (λ (u : AttachedState). u.drive.image) us place _ _ e.was e.how.1.image)
 
 pub armed_images : (us : List AttachedState) (place : ℕ) (arm : Arm) (us' : List AttachedState) → ArmChanges place arm us us'
     → map (λ (u : AttachedState). u.drive.image) us' ≡ map (λ (u : AttachedState). u.drive.image) us
-armed_images us place arm us' a = ap (map (λ (u : AttachedState). u.drive.image)) a.becomes
-    ∙ map_same (λ (u : AttachedState). u.drive.image) us place a.attached (record a.attached { arm = arm }) a.was refl
+armed_images us place arm us' a = rw a.becomes (map_same (λ (u : AttachedState). u.drive.image) us place _ _ a.was refl)
 
 -- An available channel: what starts, tests and interruptions do by the arms of its drives.
 
@@ -202,17 +189,10 @@ module _ (number : ℕ) (s : Storage) (us : List AttachedState) (place : ℕ) (u
   -- the arm changes, and storage too
   pub armed_shows : (arm : Arm) (us' : List AttachedState) (t : Storage) → ArmChanges place arm us us'
       → Shows (of_parts number t Idle us') (record (with_arm arm u.device (idle_machine number s us)) { storage = t }) Idle
-  armed_shows arm us' t a = rw in_place (
-    ap (λ ds. record (idle_machine number t us) { devices = ds }) (sym (devices_set us place u new (set_arm arm) distinct there refl)),
-    all_set us place new rest (rests_at us place u rest there),
+  armed_shows arm us' t a = rw (a.becomes, inside a.attached u (sym a.was ∙ there)) (
+    rw (devices_set us place u (record u { arm = arm }) (set_arm arm) distinct there refl) refl,
+    all_set us place _ rest (rests_at us place u rest there),
   )
-    where
-      new : AttachedState
-      new = record u { arm = arm }
-
-      in_place : us' ≡ slice_set us place new
-      in_place = a.becomes ∙ ap (λ (v : AttachedState). slice_set us place (record v { arm = arm })) (inside a.attached u (sym a.was
-          ∙ there))
 
   pub start_arrived : (answer : Condition Status) (sub : Subchannel) (us' : List AttachedState) (s' : Storage) → sub ≡ Idle
       → u.arm ≡ Arrived → ArmChanges place AtRest us us'
@@ -220,11 +200,8 @@ module _ (number : ℕ) (s : Storage) (us : List AttachedState) (place : ℕ) (u
       → s' ≡ changed (status_stored busy_device_end.0 no_channel_status.0) s
       → ShowsNext (start_device u.device (idle_machine number s us) (Some (device_of u))) (condition_seen status_seen answer)
       (of_parts number s' sub us')
-  start_arrived answer sub us' s' idle is_arm a is stored = rw (idle, is_arm, is, stored) (record {
-    answers = refl;
-    shows =
-        armed_shows AtRest us' (changed (status_stored busy_device_end.0 no_channel_status.0) s) a;
-  })
+  start_arrived answer sub us' s' idle is_arm a is stored = rw (idle, is_arm, is, stored)
+      (record { answers = refl; shows = armed_shows AtRest us' (changed (status_stored busy_device_end.0 no_channel_status.0) s) a })
 
   pub start_at_rest : (answer : Answer) (sub' : Subchannel) (us' : List AttachedState) (s' : Storage) → u.arm ≡ AtRest
       → ShowsNext (started u.device (idle_machine number s us) (first (start_of (idle_machine number s us) (drive_of u.drive.state))))
@@ -249,9 +226,7 @@ module _ (device number : ℕ) (s : Storage) (us : List AttachedState) (rest : A
         (slice_get us place)
         → ShowsNext (test_device device (idle_machine number s us) (Some (record (device_of f.attached) { arm = arm }))) answer
         (of_parts number s' Idle us') → ShowsNext asked answer (of_parts number s' Idle us')
-    by_arm arm {answer} {s'} {us'} a k = subst (λ r. ShowsNext r answer (of_parts number s' Idle us'))
-        (ap (λ x. test_device device (idle_machine number s us) (Some (record (device_of f.attached) { arm = x })))
-        (sym (arm_there us place f.attached arm f.is_there a)) ∙ ap (test_device device (idle_machine number s us)) (sym f.found)) k
+    by_arm arm {answer} {s'} {us'} a k = rw (f.found, arm_there us place f.attached arm f.is_there a) k
 
     pub test_in_motion : (answer : Condition Csw) (s' : Storage) → Some InMotion ≡ option_map (λ (u : AttachedState). u.arm)
         (slice_get us place) → answer ≡ Stored (csw_of_unit BUSY) → s' ≡ changed (csw_stored (csw_of_unit BUSY)) s

@@ -3,18 +3,16 @@ use Rattle.std.proofs.Common.{◌≡◌, ℕ, ◌+◌, ◌≤◌, ◌<◌, ◌�
 use Rattle.std.proofs.Common.{length, Option, Some, None, zero, suc, ◌-◌, ◌∷◌, ◌++◌}
 use Rattle.std.proofs.lemmas.List.{length-set}
 use Rattle.std.proofs.lemmas.Simd.{map-map}
-use Rattle.std.specs.Prelude.{option_map, slice_get, slice_set}
-use Rattle.s360_words.specs.declared.flags.TheConstants.UnitStatus.{UNIT_CHECK}
+use Rattle.std.specs.Prelude.{slice_get, slice_set}
 use Rattle.s360_words.specs.declared.words.Csw.{Csw}
 use Rattle.s360_words.specs.Storage.{Storage}
-use Rattle.ckd_command.specs.Drive.{Fault, IdleDrive, drive_of, tells_equipment_check}
+use Rattle.ckd_command.specs.Drive.{Fault}
 use Rattle.ckd_drive.specs.Work.{DriveState, CallsStore}
 use Rattle.s360_laws.proofs.Standing.{goes_by, ends_by}
 use Rattle.s360_laws.proofs.Walks.{ended_stays}
 use Rattle.s360_laws.specs.Endings.{Ending}
 use Rattle.s360_laws.specs.Runs.{run}
 use Rattle.s360_laws.specs.Scripts.{units, units_in, OneUnit}
-use Rattle.s360_laws.specs.Status.{tells}
 use Rattle.s360_program.proofs.Ties.{after_units, ends_after, seen}
 use Rattle.s360_program.specs.Advances.{IsEnding, TellsOf, EndsWithFault, WentOn, CameToEnd}
 use Rattle.s360_program.specs.Advances as program
@@ -35,6 +33,7 @@ use Rattle.attached_drives.specs.Drives.{AttachedState, device_of, AllRest}
 use Rattle.s360_channel.specs.declared.subchannel.Subchannel.{Subchannel}
 use Rattle.s360_channel.specs.declared.subchannel.Subchannel.TheVariants.{Pending, Working}
 use Rattle.s360_channel.specs.Ends.{arm_told}
+use Rattle.s360_channel.specs.Nexts.{of_parts}
 use Rattle.attached_drives.proofs.Places.{map_same, sum_set, all_of_others, devices, changes, devices_set, changes_twice}
 use Rattle.attached_drives.proofs.Places.{same_number, get_set, others_set}
 use Rattle.s360_channel.proofs.Works.{channel_of, devices_of, distinct_drives, device_there, subchannel_of, run_at}
@@ -79,13 +78,7 @@ with_both u motion d = record { device = u.device; arm = arm_told motion; drive 
 
 -- a channel with this storage and subchannel, and another drive at a place
 abbrev pub channel_with : ChannelState → Storage → Subchannel → (place : ℕ) → AttachedState → ChannelState
-channel_with c s subchannel place u = record {
-  number = c.number;
-  storage = s;
-  subchannel = subchannel;
-  drives =
-      slice_set c.drives place u;
-}
+channel_with c s subchannel place u = of_parts c.number s subchannel (slice_set c.drives place u)
 
 -- What the images count.
 
@@ -99,7 +92,7 @@ module _ (c : ChannelState) (s : Storage) (subchannel : Subchannel) (place : ℕ
   one_failure h = omega (arith, sum_set (λ (u : AttachedState). u.drive.image.failures) c.drives place u v at, h)
 
   pub few_drives : length c.drives ≤ 8 → length (slice_set c.drives place v) ≤ 8
-  few_drives h = subst (λ n. n ≤ 8) (sym (length-set c.drives place v)) h
+  few_drives h = rw length-set h
 
   pub calls_at_most : (most : ℕ) → program.CallsAtMost most u.drive v.drive → (v.drive.image.failures ≡ u.drive.image.failures)
       ⊎ (v.drive.image.failures ≡ u.drive.image.failures + 1)
@@ -138,7 +131,7 @@ fault_told told old new t rose = go t.failed
 
 -- a cut saves at most
 pub cut_calls : (written : Bool) (old new : DriveState) → CallsStore false written old new → program.CallsAtMost 1 old new
-cut_calls written old new h = record { calls = most (saved written) (loaded h.loads); lasting = h.lasting; geometry = h.geometry }
+cut_calls written old new h = record { calls = omega (arith, saved written, loaded h.loads); lasting = h.lasting; geometry = h.geometry }
   where
     saved : (b : Bool) → cond b 1 0 ≤ 1
     saved true = omega arith
@@ -149,10 +142,6 @@ cut_calls written old new h = record { calls = most (saved written) (loaded h.lo
     loaded (inl h) = h
     loaded (inr h) = absurd (cc)
 
-    most : cond written 1 0 ≤ 1 → new.image.loads ≡ old.image.loads → new.image.loads + new.image.saves ≤ old.image.loads + old.image.saves
-        + 1
-    most s l = omega (arith, h.saves, s, l)
-
 -- A program that is over.
 
 abbrev pub over : ChannelState → (place : ℕ) → AttachedState → Storage → Csw → (motion : Bool) → DriveState → ChannelState
@@ -161,43 +150,22 @@ over c place u s csw motion new = channel_with c s (Pending u.device csw) place 
 module _ (c : ChannelState) (place : ℕ) (r : RunningState) (m : Machine) (w : WorksFor c place r m) (sound : IsSound m) (s : Storage)
     (told : Csw × Bool) (new : DriveState) (e : Ending) (is : IsEnding e told new) where
   told_device : device_of (with_both w.attached told.1 new) ≡ set_both (arm_after e) e.drive (device_of w.attached)
-  told_device =
-      ap (λ b. record { device = w.attached.device; arm = arm_told b; drive = drive_of new.state }) is.motion
-      ∙ ap (λ d. record { device = w.attached.device; arm = arm_after e; drive = d }) is.drive.drive
+  told_device = rw (is.motion, is.drive.drive) refl
 
   over_devices : map (changes w.attached.device (set_both (arm_after e) e.drive)) m.devices
       ≡ devices (slice_set c.drives place (with_both w.attached told.1 new))
-  over_devices =
-      ap (map (changes w.attached.device (set_both (arm_after e) e.drive))) (devices_of c place r m w)
-      ∙ changes_twice w.attached.device (set_drive w.drive) (set_both (arm_after e) e.drive) (λ d. refl) (devices c.drives)
-      ∙ sym (devices_set c.drives place w.attached (with_both w.attached told.1 new) (set_both (arm_after e) e.drive)
-      (distinct_drives c place r m w sound) w.is_there told_device)
+  over_devices = rw (
+    devices_of c place r m w,
+    changes_twice w.attached.device (set_drive w.drive) (set_both (arm_after e) e.drive)
+        (λ d. refl),
+  )
+      (sym (devices_set c.drives place w.attached (with_both w.attached told.1 new) (set_both (arm_after e) e.drive)
+      (distinct_drives c place r m w sound) w.is_there told_device))
 
   -- the machine of the channel then
   pub over_machine : ended w.attached.device s e m ≡ machine_of (over c place w.attached s told.0 told.1 new)
       (machine.Pending w.attached.device told.0)
-  over_machine =
-      ap (λ n. record {
-        channel = n;
-        storage = s;
-        subchannel = machine.Pending w.attached.device e.csw;
-        devices =
-            map (changes w.attached.device (set_both (arm_after e) e.drive)) m.devices;
-      }) (channel_of c place r m w)
-      ∙ ap (λ ds. record {
-        channel = c.number;
-        storage = s;
-        subchannel = machine.Pending w.attached.device e.csw;
-        devices =
-            ds;
-      }) over_devices
-      ∙ ap (λ csw. record {
-        channel = c.number;
-        storage = s;
-        subchannel = machine.Pending w.attached.device csw;
-        devices =
-            devices (slice_set c.drives place (with_both w.attached told.1 new));
-      }) (sym is.csw)
+  over_machine = simp (channel_of c place r m w, over_devices, is.csw) refl
 
   pub over_rest : AllRest (slice_set c.drives place (with_both w.attached told.1 new))
   over_rest = all_of_others c.drives place (with_both w.attached told.1 new) w.others is.drive.rests
@@ -209,14 +177,15 @@ module _ (c : ChannelState) (place : ℕ) (r : RunningState) (m : Machine) (w : 
     device = w.attached.device;
     csw = e.csw;
     pends = refl;
-    unit_check = ap (λ (csw : Csw). tells csw.unit UNIT_CHECK) (sym is.csw) ∙ t.unit_check;
+    unit_check = rw (← is.csw) t.unit_check;
     drive = set_both (arm_after e) e.drive first;
-    is_there =
-        found_map (λ n. n == w.attached.device) (changes w.attached.device (set_both (arm_after e) e.drive))
-        (keeps_one w.attached.device (set_both (arm_after e) e.drive) (λ d. refl)) m.devices
-        ∙ (ap (option_map (changes w.attached.device (set_both (arm_after e) e.drive))) (device_there c place r m w sound)
-        ∙ ap (λ b. Some (cond b (set_both (arm_after e) e.drive first) first)) (same_number w.attached.device));
-    equipment_check = ap (λ (d : IdleDrive). tells_equipment_check d.sense) (sym is.drive.drive) ∙ t.equipment_check;
+    is_there = rw (
+      found_map (λ n. n == w.attached.device) (changes w.attached.device (set_both (arm_after e) e.drive))
+          (keeps_one w.attached.device (set_both (arm_after e) e.drive) (λ d. refl)) m.devices,
+      device_there c place r m w sound,
+      same_number w.attached.device,
+    ) refl;
+    equipment_check = rw (← is.drive.drive) t.equipment_check;
   }
     where
       first : Device
@@ -256,20 +225,12 @@ module _ (c : ChannelState) (place : ℕ) (r : RunningState) (m : Machine) (w : 
         (after_units goes_by (start_of m w.drive) w.script r r' c.storage s w.attached.drive new k done w.runs how)
 
     went : react (StepBy k) None m ≡ (Stepped done, goes_on w.attached.device w.script (units k) m)
-    went =
-        stepped_at None ∙ (ap (λ o. stepped w.attached.device w.script k m (Some o))
-        (seen (start_of m w.drive) (w.script ++ units k) r' s new runs_on)
-        ∙ ap (λ n. (Stepped n, goes_on w.attached.device w.script (units k) m)) (sym how.done))
+    went = stepped_at None ∙ rw (seen (start_of m w.drive) (w.script ++ units k) r' s new runs_on, how.done) refl
 
     same_devices : map (changes w.attached.device (set_drive w.drive)) (devices c.drives)
         ≡ map (changes w.attached.device (set_drive w.drive)) (devices now.drives)
-    same_devices =
-        map-map (changes w.attached.device (set_drive w.drive)) device_of c.drives
-        ∙ (sym (map_same (λ u. changes w.attached.device (set_drive w.drive) (device_of u)) c.drives place w.attached
-        (with_drive w.attached new) w.is_there
-        (ap (λ b. cond b (set_drive w.drive (device_of w.attached)) (device_of (with_drive w.attached new))) (same_number w.attached.device)
-        ∙ sym (ap (λ b. cond b (set_drive w.drive (device_of w.attached)) (device_of w.attached)) (same_number w.attached.device))))
-        ∙ sym (map-map (changes w.attached.device (set_drive w.drive)) device_of now.drives))
+    same_devices = rw (map-map, map-map) (sym (map_same (λ u. changes w.attached.device (set_drive w.drive) (device_of u)) c.drives place
+        w.attached (with_drive w.attached new) w.is_there (rw (same_number w.attached.device) refl)))
 
     works_on : WorksFor now place r' (goes_on w.attached.device w.script (units k) m)
     works_on = record {
@@ -278,15 +239,7 @@ module _ (c : ChannelState) (place : ℕ) (r : RunningState) (m : Machine) (w : 
       storage = w.storage;
       drive = w.drive;
       script = w.script ++ units k;
-      machine =
-          ap (with_subchannel (machine.Working w.attached.device (w.script ++ units k))) w.machine
-          ∙ ap (λ ds. record {
-            channel = c.number;
-            storage = w.storage;
-            subchannel =
-                machine.Working w.attached.device (w.script ++ units k);
-            devices = ds;
-          }) same_devices;
+      machine = ap (with_subchannel (machine.Working w.attached.device (w.script ++ units k))) w.machine ∙ rw same_devices refl;
       runs = runs_on;
       others = others_set c.drives place w.attached (with_drive w.attached new) w.is_there w.others;
     }
@@ -314,15 +267,11 @@ module _ (c : ChannelState) (place : ℕ) (r : RunningState) (m : Machine) (w : 
     )
     came f is =
         let y = split k how.earlier f (omega (arith, how.last, how.done)) in
+        let less : (a b : ℕ) → a + b - a ≡ b = λ a b. omega arith in
         stepped_at (met_in how.earlier f)
-        ∙ ap (λ l. stepped w.attached.device w.script k m (Some (run (w.script ++ l) (start_of m w.drive)))) (y.1
-        ∙ ap (λ f. units how.earlier ++ OneUnit f ∷ units y.0) (sym is))
+        ∙ ap (λ l. stepped w.attached.device w.script k m (Some (run (w.script ++ l) (start_of m w.drive)))) (y.1 ∙ rw is refl)
         ∙ ap (λ o. stepped w.attached.device w.script k m (Some o)) (ends_after ends_by ended_stays (start_of m w.drive) w.script r
-        c.storage s w.attached.drive new k done told w.runs how (units y.0))
-        ∙ ap (λ n. (Stepped n, ended w.attached.device s how.ending m)) (less (units_in w.script) done)
-      where
-        less : (a b : ℕ) → a + b - a ≡ b
-        less a b = omega arith
+        c.storage s w.attached.drive new k done told w.runs how (units y.0)) ∙ rw (less (units_in w.script) done) refl
 
     one_more : done ≡ suc how.earlier
     one_more = omega (arith, how.last)

@@ -1,7 +1,7 @@
 -- What the machine shows that a channel stands for while a program runs.
 use Rattle.std.proofs.Common.{◌≡◌, ℕ, refl, ap, subst, ◌∙◌, cond, ◌==◌, List, map, Some}
 use Rattle.std.proofs.lemmas.Bool.{eq-eqb}
-use Rattle.std.specs.Prelude.{find, option_map}
+use Rattle.std.specs.Prelude.{option_map}
 use Rattle.s360_words.specs.Storage.{Storage}
 use Rattle.s360_words.specs.declared.words.Ccw.{Ccw}
 use Rattle.ckd_command.specs.Drive.{State}
@@ -41,19 +41,15 @@ module _ (c : ChannelState) (place : ℕ) (r : RunningState) (m : Machine) (w : 
       (subst AreDistinct devices_of sound.0)
 
   -- the device at its address has the arm of the drive, and the drive of the start
-  pub device_there : IsSound m → device_at m w.attached.device ≡ Some (record {
-    device = w.attached.device;
-    arm = w.attached.arm;
-    drive =
-        w.drive;
-  })
-  device_there sound =
-      ap (find (λ v. v.device == w.attached.device)) devices_of
-      ∙ found_map (λ d. d == w.attached.device) _ (keeps_one w.attached.device (set_drive w.drive) (λ v. refl)) (map device_of c.drives)
-      ∙ ap (option_map (λ d. cond (d.device == w.attached.device) (set_drive w.drive d) d)) (found_at c.drives place w.attached
-      (distinct_drives sound) w.is_there)
-      ∙ ap (λ b. Some (cond b (set_drive w.drive (device_of w.attached)) (device_of w.attached)))
-      (eq-eqb w.attached.device w.attached.device refl)
+  pub device_there : IsSound m
+      → device_at m w.attached.device ≡ Some (record { device = w.attached.device; arm = w.attached.arm; drive = w.drive })
+  device_there sound = rw (
+    devices_of,
+    found_map (λ d. d == w.attached.device) (λ d. cond (d.device == w.attached.device)
+        (set_drive w.drive d) d) (keeps_one w.attached.device (set_drive w.drive) (λ v. refl)) (map device_of c.drives),
+    found_at c.drives place w.attached (distinct_drives sound) w.is_there,
+    eq-eqb w.attached.device w.attached.device refl,
+  ) refl
 
   pub run_at : IsSound m → (script : Script) → run_of m w.attached.device script ≡ Some (run script (start_of m w.drive))
   run_at sound script = ap (option_map (λ d. run script (start_of m d.drive))) (device_there sound)

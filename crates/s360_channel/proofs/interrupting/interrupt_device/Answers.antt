@@ -1,5 +1,4 @@
-use Rattle.std.proofs.Common.{◌∙◌, sym, ap, ◌+◌, ◌*◌, arith}
-use Rattle.s360_words.specs.Storage.{changed, csw_stored}
+use Rattle.std.proofs.Common.{◌∙◌, sym, arith}
 use Rattle.s360_channel.proofs.Started.{armed_images, within, never_lost, interrupt_arrived}
 use Rattle.s360_channel.proofs.interrupting.interrupt_device.Goals as goal
 
@@ -16,14 +15,11 @@ set_arm-requires g c = (
 )
 
 pub returns-clause-does : goal.returns-clause-does
-returns-clause-does g c =
-    let holds = g.M.MainStorage.holds in
-    λ rest distinct.
-    interrupt_arrived c.args.number (holds c.args.storage.now) c.args.drives.now rest distinct c.in_ok-device.device c.in_ok-place.place
-    c.interrupted.result c.set_arm.new.self (holds c.interrupted.new.storage)
+returns-clause-does g c = λ rest distinct.
+    interrupt_arrived c.args.number _ c.args.drives.now rest distinct c.in_ok-device.device c.in_ok-place.place
+    c.interrupted.result c.set_arm.new.self _
     (sym c.lowest_arrived.ensures ∙ c.in_ok-device.was) (sym c.place_of.ensures ∙ c.in_ok-place.was) c.set_arm.ensures
-    (c.interrupted.ensures.told ∙ ap (λ csw. (256 * c.args.number + c.in_ok-device.device, csw)) c.csw_of_unit-csw.ensures)
-    (c.interrupted.ensures.storage ∙ ap (λ csw. changed (csw_stored csw) (holds c.args.storage.now)) c.csw_of_unit-csw.ensures)
+    (rw c.csw_of_unit-csw.ensures at c.interrupted.ensures.told) (rw c.csw_of_unit-csw.ensures at c.interrupted.ensures.storage)
 
 pub returns-clause-images : goal.returns-clause-images
 returns-clause-images g c = armed_images c.args.drives.now c.in_ok-place.place _ c.set_arm.new.self c.set_arm.ensures

@@ -15,31 +15,23 @@ set_arm-requires g c = (
 )
 
 pub returns-in-Bad-clause-does : goal.returns-in-Bad-clause-does
-returns-in-Bad-clause-does g c =
-    let holds = g.M.MainStorage.holds in
-    λ attached there number rest distinct.
-    starts_bad number (holds c.args.storage.now) c.args.drives.now c.args.place attached there rest distinct c.caw_word-caw.result
-    c.args.subchannel.now c.status_stored.result c.start.new.self (holds c.status_stored.new.storage)
-    c.requires.idle c.caw_word-caw.ensures (c.in-Bad.ensures) c.status_stored.ensures.answer c.status_stored.ensures.storage
+returns-in-Bad-clause-does g c = λ attached there number rest distinct.
+    starts_bad number _ c.args.drives.now c.args.place attached there rest distinct c.caw_word-caw.result c.args.subchannel.now
+    c.status_stored.result c.start.new.self _ c.requires.idle c.caw_word-caw.ensures c.in-Bad.ensures c.status_stored.ensures.answer
+    c.status_stored.ensures.storage
 
 pub returns-in-Rejected-clause-does : goal.returns-in-Rejected-clause-does
-returns-in-Rejected-clause-does g c =
-    let holds = g.M.MainStorage.holds in
-    λ attached there number rest distinct.
+returns-in-Rejected-clause-does g c = λ attached there number rest distinct.
     let k = c.status_stored-in-Rejected in
-    starts_rejected number (holds c.args.storage.now) c.args.drives.now c.args.place attached there rest distinct c.caw_word-caw.result
-    c.args.subchannel.now k.result c.start.new.self (holds k.new.storage)
-    c.requires.idle c.caw_word-caw.ensures (c.in-Rejected.ensures) k.ensures.answer k.ensures.storage
+    starts_rejected number _ c.args.drives.now c.args.place attached there rest distinct c.caw_word-caw.result c.args.subchannel.now
+    k.result c.start.new.self _ c.requires.idle c.caw_word-caw.ensures c.in-Rejected.ensures k.ensures.answer k.ensures.storage
 
 pub returns-in-Immediate-clause-does : goal.returns-in-Immediate-clause-does
-returns-in-Immediate-clause-does g c =
-    let holds = g.M.MainStorage.holds in
-    λ attached there number rest distinct.
+returns-in-Immediate-clause-does g c = λ attached there number rest distinct.
     let k = c.status_stored-in-Immediate in
-    starts_immediate number (holds c.args.storage.now) c.args.drives.now c.args.place attached there rest distinct c.caw_word-caw.result
-    c.args.subchannel.now k.result c.start.new.self c.set_arm.new.self (holds k.new.storage)
-    c.in-Immediate.told c.in-Immediate.asked c.arm_after.result c.interruption_told.result
-    c.requires.idle c.caw_word-caw.ensures (c.in-Immediate.ensures) c.set_arm.ensures c.arm_after.ensures c.interruption_told.ensures
+    starts_immediate number _ c.args.drives.now c.args.place attached there rest distinct c.caw_word-caw.result c.args.subchannel.now
+    k.result c.start.new.self c.set_arm.new.self _ c.in-Immediate.told c.in-Immediate.asked c.arm_after.result c.interruption_told.result
+    c.requires.idle c.caw_word-caw.ensures c.in-Immediate.ensures c.set_arm.ensures c.arm_after.ensures c.interruption_told.ensures
     k.ensures.answer k.ensures.storage
 
 pub returns-in-Immediate-clause-images : goal.returns-in-Immediate-clause-images
@@ -48,9 +40,6 @@ returns-in-Immediate-clause-images g c =
     ∙ started_images c.args.drives.now c.args.place _ _ _ c.start.new.self c.start.ensures
 
 pub returns-in-Accepted-clause-does : goal.returns-in-Accepted-clause-does
-returns-in-Accepted-clause-does g c =
-    let holds = g.M.MainStorage.holds in
-    λ attached there number rest distinct.
-    starts_accepted number (holds c.args.storage.now) c.args.drives.now c.args.place attached there rest distinct c.accepted_stands.ensures
-    c.caw_word-caw.result c.start.new.self c.in-Accepted.running
-    c.caw_word-caw.ensures (c.in-Accepted.ensures)
+returns-in-Accepted-clause-does g c = λ attached there number rest distinct.
+    starts_accepted number _ c.args.drives.now c.args.place attached there rest distinct c.accepted_stands.ensures
+    c.caw_word-caw.result c.start.new.self c.in-Accepted.running c.caw_word-caw.ensures c.in-Accepted.ensures

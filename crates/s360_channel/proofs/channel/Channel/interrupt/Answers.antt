@@ -4,8 +4,5 @@ use Rattle.s360_channel.proofs.channel.Channel.interrupt.Goals as goal
 pub invariant_of-self : goal.invariant_of-self
 invariant_of-self g c = let e = c.interrupt.ensures in e.keeps.size ∙ (c.self.invariant ∙ sym e.same.size)
 
-pub returns-clause-does : goal.returns-clause-does
-returns-clause-does g c = rw (← c.self.view_is) c.interrupt.ensures.does
-
-pub returns-clause-calls : goal.returns-clause-calls
-returns-clause-calls g c = rw (← c.self.view_is) c.interrupt.ensures.calls
+pub returns : goal.returns
+returns g c = rw (← c.self.view_is) (record { does = c.interrupt.ensures.does; calls = c.interrupt.ensures.calls })

@@ -4,8 +4,5 @@ use Rattle.s360_channel.proofs.channel.Channel.step.Goals as goal
 pub invariant_of-self : goal.invariant_of-self
 invariant_of-self g c = let e = c.step.ensures in e.keeps.size ∙ (c.self.invariant ∙ sym e.same.size)
 
-pub returns-clause-does : goal.returns-clause-does
-returns-clause-does g c = rw (← c.self.view_is) c.step.ensures.does
-
-pub returns-clause-calls : goal.returns-clause-calls
-returns-clause-calls g c = rw (← c.self.view_is) c.step.ensures.calls
+pub returns : goal.returns
+returns g c = let e = c.step.ensures in rw (← c.self.view_is) (record { does = e.does; most = e.most; calls = e.calls })

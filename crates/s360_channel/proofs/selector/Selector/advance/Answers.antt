@@ -33,74 +33,58 @@ end_program-requires g c =
 
 pub invariant_of-self-in-Some : goal.invariant_of-self-in-Some
 invariant_of-self-in-Some g c =
-    let holds = g.M.MainStorage.holds in
     let a = c.advance-advance in
-    does_selector (StepBy c.args.units) (Stepped a.result.done) (2 * a.result.done) _ _ _ (holds a.new.storage)
-    (rw (← c.self.view_is) at c.is_over.ensures) refl a.ensures.advances.how.storage
-    (λ m s. step_ends _ m c.in-Working.place c.in-Working.running c.in-Working.is s c.args.units a.result a.new.running
-    (holds a.new.storage)
-    a.new.self a.ensures.advances c.in-Some.csw c.in-Some.motion c.in-Some.is _ _ c.end_program.ensures)
+    does_selector (StepBy c.args.units) (Stepped a.result.done) (2 * a.result.done) _ _ _ _ (rw (← c.self.view_is) at c.is_over.ensures)
+    refl a.ensures.advances.how.storage (λ m s. step_ends _ m c.in-Working.place c.in-Working.running c.in-Working.is s c.args.units
+    a.result a.new.running _ a.new.self a.ensures.advances c.in-Some.csw c.in-Some.motion c.in-Some.is _ _ c.end_program.ensures)
 
 pub invariant_of-self-in_default-ending : goal.invariant_of-self-in_default-ending
 invariant_of-self-in_default-ending g c =
-    let holds = g.M.MainStorage.holds in
     let a = c.advance-advance in
-    does_selector (StepBy c.args.units) (Stepped a.result.done) (2 * a.result.done) _ _ _ (holds a.new.storage)
-    (rw (← c.self.view_is) at c.is_over.ensures) refl a.ensures.advances.how.storage
-    (λ m s. step_goes_on _ m c.in-Working.place c.in-Working.running c.in-Working.is s c.args.units a.result a.new.running
-    (holds a.new.storage)
-    a.new.self a.ensures.advances (none_left a.result.ending c.in_default-ending.not-Some))
+    does_selector (StepBy c.args.units) (Stepped a.result.done) (2 * a.result.done) _ _ _ _ (rw (← c.self.view_is) at c.is_over.ensures)
+    refl a.ensures.advances.how.storage (λ m s. step_goes_on _ m c.in-Working.place c.in-Working.running c.in-Working.is s c.args.units
+    a.result a.new.running _ a.new.self a.ensures.advances (none_left a.result.ending c.in_default-ending.not-Some))
 
 pub returns-in-Some-clause-does : goal.returns-in-Some-clause-does
-returns-in-Some-clause-does g c =
-    let holds = g.M.MainStorage.holds in
-    rw (← c.self.view_is) (λ m s. let a = c.advance-advance in
-    (step_ends _ m c.in-Working.place c.in-Working.running c.in-Working.is s c.args.units a.result a.new.running
-    (holds a.new.storage) a.new.self
+returns-in-Some-clause-does g c = rw (← c.self.view_is) (λ m s. let a = c.advance-advance in
+    (step_ends _ m c.in-Working.place c.in-Working.running c.in-Working.is s c.args.units a.result a.new.running _ a.new.self
     a.ensures.advances c.in-Some.csw c.in-Some.motion c.in-Some.is _ _ c.end_program.ensures).0)
 
 pub returns-in-Some-clause-most : goal.returns-in-Some-clause-most
 returns-in-Some-clause-most g c =
-    let holds = g.M.MainStorage.holds in
     let a = c.advance-advance in
     let is = (rw (← c.self.view_is) at c.is_over.ensures).channel in
-    step_most _ is.machine c.in-Working.place c.in-Working.running c.in-Working.is is.stands c.args.units a.result a.new.running
-    (holds a.new.storage) a.new.self a.ensures.advances
+    step_most _ is.machine c.in-Working.place c.in-Working.running c.in-Working.is is.stands c.args.units a.result a.new.running _
+    a.new.self a.ensures.advances
 
 pub returns-in-Some-clause-calls : goal.returns-in-Some-clause-calls
 returns-in-Some-clause-calls g c =
-    let holds = g.M.MainStorage.holds in
     let a = c.advance-advance in
     let is = (rw (← c.self.view_is) at c.is_over.ensures).channel in
     rw (← c.self.view_is) (step_ends _ is.machine c.in-Working.place c.in-Working.running c.in-Working.is is.stands c.args.units a.result
-    a.new.running (holds a.new.storage) a.new.self a.ensures.advances c.in-Some.csw c.in-Some.motion c.in-Some.is _ _
-    c.end_program.ensures).1
+    a.new.running _ a.new.self a.ensures.advances c.in-Some.csw c.in-Some.motion c.in-Some.is _ _ c.end_program.ensures).1
 
 pub returns-in-Some-clause-keeps : goal.returns-in-Some-clause-keeps
 returns-in-Some-clause-keeps g c = c.advance-advance.ensures.advances.how.storage
 
 pub returns-in_default-ending-clause-does : goal.returns-in_default-ending-clause-does
-returns-in_default-ending-clause-does g c =
-    let holds = g.M.MainStorage.holds in
-    rw (← c.self.view_is)
-    (λ m s. let a = c.advance-advance in (step_goes_on _ m c.in-Working.place c.in-Working.running c.in-Working.is s c.args.units a.result
-    a.new.running (holds a.new.storage) a.new.self a.ensures.advances (none_left a.result.ending c.in_default-ending.not-Some)).0)
+returns-in_default-ending-clause-does g c = rw (← c.self.view_is) (λ m s. let a = c.advance-advance in
+    (step_goes_on _ m c.in-Working.place c.in-Working.running c.in-Working.is s c.args.units a.result a.new.running _ a.new.self
+    a.ensures.advances (none_left a.result.ending c.in_default-ending.not-Some)).0)
 
 pub returns-in_default-ending-clause-most : goal.returns-in_default-ending-clause-most
 returns-in_default-ending-clause-most g c =
-    let holds = g.M.MainStorage.holds in
     let a = c.advance-advance in
     let is = (rw (← c.self.view_is) at c.is_over.ensures).channel in
-    step_most _ is.machine c.in-Working.place c.in-Working.running c.in-Working.is is.stands c.args.units a.result a.new.running
-    (holds a.new.storage) a.new.self a.ensures.advances
+    step_most _ is.machine c.in-Working.place c.in-Working.running c.in-Working.is is.stands c.args.units a.result a.new.running _
+    a.new.self a.ensures.advances
 
 pub returns-in_default-ending-clause-calls : goal.returns-in_default-ending-clause-calls
 returns-in_default-ending-clause-calls g c =
-    let holds = g.M.MainStorage.holds in
     let a = c.advance-advance in
     let is = (rw (← c.self.view_is) at c.is_over.ensures).channel in
     rw (← c.self.view_is) (step_goes_on _ is.machine c.in-Working.place c.in-Working.running c.in-Working.is is.stands c.args.units
-    a.result a.new.running (holds a.new.storage) a.new.self a.ensures.advances (none_left a.result.ending c.in_default-ending.not-Some)).1
+    a.result a.new.running _ a.new.self a.ensures.advances (none_left a.result.ending c.in_default-ending.not-Some)).1
 
 pub returns-in_default-ending-clause-keeps : goal.returns-in_default-ending-clause-keeps
 returns-in_default-ending-clause-keeps g c = c.advance-advance.ensures.advances.how.storage

@@ -7,16 +7,11 @@ use Rattle.s360_channel.proofs.selector.Selector.arrive.Goals as goal
 
 pub returns-then-address-self-clause-does : goal.returns-then-address-self-clause-does
 returns-then-address-self-clause-does g c =
-    let i = c.self.inside in
-    rw (← c.self.view_is)
-    (λ s m st. arrive_other c.args.address i.number s i.subchannel i.drives m st c.if-address-self.true)
+    rw (← c.self.view_is) (λ s m st. arrive_other c.args.address _ _ _ _ m st c.if-address-self.true)
 
 pub returns-in_default-clause-does : goal.returns-in_default-clause-does
-returns-in_default-clause-does g c =
-    let i = c.self.inside in
-    rw (← c.self.view_is)
-    (λ s m st. arrive_none c.args.address i.number s i.subchannel i.drives m st c.if-address-self.false
-    (sym c.place_of.ensures ∙ c.in_default.is))
+returns-in_default-clause-does g c = rw (← c.self.view_is)
+    (λ s m st. arrive_none c.args.address _ _ _ _ m st c.if-address-self.false (sym c.place_of.ensures ∙ c.in_default.is))
 
 pub arm-requires : goal.arm-requires
 arm-requires g c = (omega arith, within _ c.self.inside.drives c.in-Some.place (sym c.in-Some.ensures))
@@ -26,18 +21,14 @@ set_arm-requires g c = (omega arith, within _ c.self.inside.drives c.in-Some.pla
 
 pub invariant_of-self : goal.invariant_of-self
 invariant_of-self g c =
-    let i = c.self.inside in
     let h = c.self.invariant in
     let m = h.is_over.channel.machine in
-    still_over _ _ h refl (stays _ m _ _
-    (arrive_moves c.args.address i.number h.storage i.subchannel i.drives m h.is_over.channel.stands c.if-address-self.false
+    still_over _ _ h refl (stays _ m _ _ (arrive_moves c.args.address _ _ _ _ m h.is_over.channel.stands c.if-address-self.false
     c.in-Some.place (sym c.in-Some.ensures) InMotion c.in-InMotion.ensures c.set_arm.new.self refl c.set_arm.ensures))
 
 pub returns-in-InMotion-clause-does : goal.returns-in-InMotion-clause-does
-returns-in-InMotion-clause-does g c =
-    let i = c.self.inside in
-    rw (← c.self.view_is) (λ s m st.
-    arrive_moves c.args.address i.number s i.subchannel i.drives m st c.if-address-self.false c.in-Some.place (sym c.in-Some.ensures)
+returns-in-InMotion-clause-does g c = rw (← c.self.view_is) (λ s m st.
+    arrive_moves c.args.address _ _ _ _ m st c.if-address-self.false c.in-Some.place (sym c.in-Some.ensures)
     InMotion c.in-InMotion.ensures c.set_arm.new.self refl c.set_arm.ensures)
 
 pub returns-in-InMotion-clause-calls : goal.returns-in-InMotion-clause-calls
@@ -45,15 +36,11 @@ returns-in-InMotion-clause-calls g c = rw (← c.self.view_is) (λ s. armed_imag
     c.set_arm.ensures)
 
 pub returns-in-AtRest-clause-does : goal.returns-in-AtRest-clause-does
-returns-in-AtRest-clause-does g c =
-    let i = c.self.inside in
-    rw (← c.self.view_is) (λ s m st.
-    arrive_still c.args.address i.number s i.subchannel i.drives m st c.if-address-self.false c.in-Some.place (sym c.in-Some.ensures)
-    AtRest c.in-AtRest.ensures refl)
+returns-in-AtRest-clause-does g c = rw (← c.self.view_is) (λ s m st.
+    arrive_still c.args.address _ _ _ _ m st c.if-address-self.false c.in-Some.place (sym c.in-Some.ensures) AtRest c.in-AtRest.ensures
+    refl)
 
 pub returns-in-Arrived-clause-does : goal.returns-in-Arrived-clause-does
-returns-in-Arrived-clause-does g c =
-    let i = c.self.inside in
-    rw (← c.self.view_is) (λ s m st.
-    arrive_still c.args.address i.number s i.subchannel i.drives m st c.if-address-self.false c.in-Some.place (sym c.in-Some.ensures)
-    Arrived c.in-Arrived.ensures refl)
+returns-in-Arrived-clause-does g c = rw (← c.self.view_is) (λ s m st.
+    arrive_still c.args.address _ _ _ _ m st c.if-address-self.false c.in-Some.place (sym c.in-Some.ensures) Arrived
+    c.in-Arrived.ensures refl)

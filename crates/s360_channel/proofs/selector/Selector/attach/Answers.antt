@@ -6,11 +6,8 @@ use Rattle.s360_channel.proofs.Selecting.{still_over}
 use Rattle.s360_channel.proofs.selector.Selector.attach.Goals as goal
 
 pub attach-requires : goal.attach-requires
-attach-requires g c = (
-  omega arith,
-  has_place c.len.result _ c.len.ensures.count c.if-len-eq8.false
-      c.self.invariant.is_over.channel.stands.few,
-)
+attach-requires g c =
+    (omega arith, has_place c.len.result _ c.len.ensures.count c.if-len-eq8.false c.self.invariant.is_over.channel.stands.few)
 
 pub invariant_of-self : goal.invariant_of-self
 invariant_of-self g c =

@@ -11,10 +11,8 @@ put_back-requires g c =
     let old : SelectorState = record { number = i.number; size = i.size; subchannel = i.subchannel; drives = i.drives } in
     let h = c.self.invariant in
     let k = h.is_over.channel in
-    let free = clear c.args.saved.now old (rw (← c.self.view_is) at c.requires) in (
-      omega arith,
-      (rest_here c.args.saved.now old h.storage k.machine free k.stands, free.tracks),
-    )
+    let free = clear c.args.saved.now old (rw (← c.self.view_is) at c.requires) in
+    (omega arith, (rest_here c.args.saved.now _ h.storage k.machine free k.stands, free.tracks))
 
 pub invariant_of-self : goal.invariant_of-self
 invariant_of-self g c =
@@ -26,9 +24,8 @@ invariant_of-self g c =
     let free = clear saved old (rw (← c.self.view_is) at c.requires) in
     still_over _ _ h refl (record {
       machine = machine_back saved k.machine;
-      stands = there saved old h.storage k.machine c.subchannel_back-self-inside.result c.put_back.new.self
-          c.subchannel_back-self-inside.ensures c.put_back.ensures
-          free k.stands;
+      stands = there saved _ h.storage k.machine _ _
+          c.subchannel_back-self-inside.ensures c.put_back.ensures free k.stands;
     })
 
 pub returns-clause-stands : goal.returns-clause-stands
@@ -37,6 +34,4 @@ returns-clause-stands g c =
     let old : SelectorState = record { number = i.number; size = i.size; subchannel = i.subchannel; drives = i.drives } in
     let saved = c.args.saved.now in
     let free = clear saved old (rw (← c.self.view_is) at c.requires) in
-    rw (← c.self.view_is) (λ s m h.
-    there saved old s m c.subchannel_back-self-inside.result c.put_back.new.self
-    c.subchannel_back-self-inside.ensures c.put_back.ensures free h)
+    rw (← c.self.view_is) (λ s m h. there saved _ s m _ _ c.subchannel_back-self-inside.ensures c.put_back.ensures free h)
