@@ -1,5 +1,5 @@
 -- Volumes that are saved as one.
-use Rattle.std.proofs.Common.{ℕ, ◌+◌, ◌<◌, ◌≤◌, ◌≡◌, ◌∙◌, ◌⊎◌, inl, inr, List, [], ◌∷◌, ◌++◌, length, get_or, drop, ap, sym, subst, refl}
+use Rattle.std.proofs.Common.{ℕ, ◌+◌, ◌<◌, ◌≤◌, ◌≡◌, ◌∙◌, ◌⊎◌, inl, inr, List, [], ◌∷◌, ◌++◌, length, get_or, drop, ap, sym, refl}
 use Rattle.std.proofs.Common.{Option, Some, None, Result, Ok, Err, add-one, append_assoc, append-nil, suc, false, IfErr, arith, rules}
 use Rattle.std.specs.List.{zip}
 use Rattle.std.proofs.Math.Seq.{drop-cons}
@@ -48,24 +48,8 @@ none_there (v ∷ others) ds i before now inside none rest = by (cases_lt i (len
     vs = v ∷ others
 
     by : (i < length ds) ⊎ (length ds ≤ i) → AreSaved (drop i (zip vs ds)) before now
-    by (inl less) =
-        subst (λ (l : List (Volume × Given)). AreSaved l before now)
-        (sym (from_pair vs ds i v None inside less ∙ ap (λ (d : Given). (get_or vs i v, d) ∷ drop (i + 1) (zip vs ds)) none)) rest
-    by (inr past) =
-        subst (λ (l : List (Volume × Given)). AreSaved l before now)
-        (no_pair vs ds (i + 1) (omega arith) ∙ sym (no_pair vs ds i past)) rest
-
--- This image stands beside the volume at a place.
-pub record StandsBeside (vs : List Volume) (ds : List Given) (i : ℕ) (d : ℕ × ImageState) : Type 0 where
-  pub inside : i < length vs
-  pub there : get_or ds i None ≡ Some d
-
--- the pairs from one on that has an image
-pair_there : (vs : List Volume) (ds : List Given) (i : ℕ) (v : Volume) (d : ℕ × ImageState) → StandsBeside vs ds i d
-    → drop i (zip vs ds) ≡ (get_or vs i v, Some d) ∷ drop (i + 1) (zip vs ds)
-pair_there vs ds i v d beside =
-    from_pair vs ds i v None beside.inside (is_within ds i d beside.there)
-    ∙ ap (λ (e : Given). (get_or vs i v, e) ∷ drop (i + 1) (zip vs ds)) beside.there
+    by (inl less) = rw (from_pair vs ds i v None inside less, none) rest
+    by (inr past) = rw (no_pair vs ds i past) (rw (no_pair vs ds (i + 1) (omega arith)) at rest)
 
 -- what is written of an image, behind other files
 behind : (front before now : List Replaced) (paths : List (List ℕ)) (i : ImageState) → IsWritten paths i before now
@@ -79,23 +63,21 @@ behind front before now paths i w = record {
 
 -- a volume that is saved with the others, behind those before it
 pub saved_there : (vs : List Volume) (ds : List Given) (i : ℕ) (v : Volume) (d : ℕ × ImageState) (front before between now : List Replaced)
-    → StandsBeside vs ds i d → IsWritten (paths_of (get_or vs i v).source) d.1 before between
+    → (i < length vs) × (get_or ds i None ≡ Some d) → IsWritten (paths_of (get_or vs i v).source) d.1 before between
     → AreSaved (drop (i + 1) (zip vs ds)) (front ++ between) now → AreSaved (drop i (zip vs ds)) (front ++ before) now
-saved_there vs ds i v d front before between now beside here rest =
-    subst (λ (l : List (Volume × Given)). AreSaved l (front ++ before) now) (sym (pair_there vs ds i v d beside))
+saved_there vs ds i v d front before between now there here rest =
+    rw (from_pair vs ds i v None there.0 (is_within ds i d there.1), there.1)
     (front ++ between, behind front before between _ _ here, rest)
 
 -- and behind the last one
 pub none_left : (vs : List Volume) (ds : List Given) (i : ℕ) (before now : List Replaced) → length vs ≤ i → now ≡ before
     → AreSaved (drop i (zip vs ds)) before now
-none_left vs ds i before now past same =
-    subst (λ (l : List (Volume × Given)). AreSaved l before now) (sym (drop_all i (zip vs ds) (omega (arith, length-zip vs ds)))) same
+none_left vs ds i before now past same = rw (drop_all i (zip vs ds) (omega (arith, length-zip vs ds))) same
 
 -- before the first one
 pub none_yet : (vs : List Volume) (ds : List Given) (front new now : List Replaced) → new ≡ []
     → AreSaved (drop 0 (zip vs ds)) (front ++ new) now → AreSaved (zip vs ds) front now
-none_yet vs ds front new now none =
-    subst (λ (l : List Replaced). AreSaved (zip vs ds) l now) (ap (λ (l : List Replaced). front ++ l) none ∙ append-nil front)
+none_yet vs ds front new now none saved = rw (none, append-nil front) at saved
 
 -- the fault that is told is a file's
 pub fault_of_files : (r : Result (Unit {0}) ProgramFault) (ps : List (Volume × Given)) (before now : List Replaced)

@@ -1,31 +1,23 @@
 -- What a volume holds, as it is printed with its sections.
-use Rattle.std.proofs.Common.{◌≢◌, ◌∙◌, ◌+◌, inl, inr, refl, ap, subst, Bool, List, [], Ok, Err}
-use Rattle.counted_io.specs.Streams.{Stream, Takes, TakesFront, NoneFailed, IsFlushed}
+use Rattle.std.proofs.Common.{◌≢◌, ◌∙◌, inl, refl, Bool, [], Ok, Err}
+use Rattle.counted_io.specs.Streams.{Stream, NoneFailed, IsFlushed}
 use Rattle.counted_io.proofs.Written.{takes_nothing, takes_more}
 use Rattle.dasd_volumes.specs.declared.fault.VolumeFault.{VolumeFault}
-use Rattle.dasd_volumes.specs.declared.fault.VolumeFault.TheVariants as volume
 use Rattle.dasd_volumes.specs.Printing.{PrintsText, CountsWrites}
 use Rattle.dasd_volumes.specs.Reading.{KnownVolume}
 use Rattle.dasd_volumes.proofs.Fronts.{begins_with_all, begins_before, front_more, front_behind}
-use Rattle.volume_contents.specs.declared.blocks.Block.{Block}
 use Rattle.volume_contents.specs.declared.reading.Contents.{Contents}
-use Rattle.library_contents.specs.Report.{printed, some_wrong}
+use Rattle.library_contents.specs.Report.{printed}
 use Rattle.volume_details.specs.Sections.{Views, sections, TellsWrong}
 use Rattle.dasd_jobs.specs.declared.faults.JobFault.TheVariants as job
 use Rattle.dasd_run.specs.declared.commands.Ending.{Ending}
 use Rattle.program_faults.specs.declared.fault.ProgramFault.{ProgramFault}
 use Rattle.program_faults.specs.declared.fault.ProgramFault.TheVariants as fault
 use Rattle.program_faults.specs.Faults.{printing_fault}
-use Rattle.dasd_run.specs.Held.{SaysAll, held_ending, CountsFault, PrintsHeld}
+use Rattle.dasd_run.specs.Held.{SaysAll, PrintsHeld}
 use Rattle.dasd_run.specs.Details.{PrintsDetails}
 use Rattle.dasd_run.specs.Ended.{worse}
-
--- a fault of the sections, behind a table of which no write failed
-counts_behind : (f : VolumeFault) (a b d : Stream) → NoneFailed a b → CountsWrites {A = Bool} (Err f) b d
-    → CountsFault (printing_fault f) a d
-counts_behind volume.OutOfMemory a b d none k = inl (λ e. absurd cc, k ∙ none)
-counts_behind volume.Store a b d none k = inl (λ e. absurd cc, k ∙ none)
-counts_behind volume.Write a b d none k = inr (refl, k ∙ ap (λ n. n + 1) none)
+use Rattle.dasd_run.proofs.Held.{counts_behind}
 
 module _ (shown : Views) (v : KnownVolume) where
   -- nothing was printed, with another fault than that of a write
@@ -45,13 +37,9 @@ module _ (shown : Views) (v : KnownVolume) where
         → PrintsDetails (Ok (worse ending w)) shown v a d
     all_detailed w took wrong none flushed = (
       λ slots known.
-          let h = held.0 slots known in
           let blocks = (is slots known).blocks in (
-            takes_more a b d _ _ h.0
-                (subst (λ (l : List Block). Takes b d (printed (sections shown l v.geometry slots))) blocks (took slots known)),
-            ap (λ e. worse e w) h.1
-                ∙ ap (worse (held_ending v.geometry slots))
-                (wrong slots known ∙ ap (λ (l : List Block). some_wrong (sections shown l v.geometry slots)) blocks),
+            takes_more a b d _ _ (held.0 slots known).0 (rw blocks at (took slots known)),
+            rw ((held.0 slots known).1, wrong slots known, blocks) refl,
           ),
       none ∙ held.1,
       flushed,
@@ -62,9 +50,6 @@ module _ (shown : Views) (v : KnownVolume) where
         → PrintsText {A = Bool} (Err f) (λ g slots. printed (sections shown c.found.blocks.items g slots)) v b d
         → CountsWrites {A = Bool} (Err f) b d → PrintsDetails (Err (printing_fault f)) shown v a d
     sections_begun f took counted = (
-      λ slots known.
-          front_behind a b d _ _ (held.0 slots known).0
-          (subst (λ (l : List Block). TakesFront b d (printed (sections shown l v.geometry slots))) (is slots known).blocks
-          (took slots known)),
-      counts_behind f a b d held.1 counted,
+      λ slots known. front_behind a b d _ _ (held.0 slots known).0 (rw (is slots known).blocks at (took slots known)),
+      counts_behind Bool f a b d held.1 counted,
     )

@@ -2,8 +2,7 @@ use Rattle.std.proofs.Common.{◌≡◌, ◌∙◌, ℕ, List, map, inl, inr, re
 use Rattle.std.proofs.lemmas.Result.{err_from_is_err_and}
 use Rattle.counted_io.specs.Streams.{seen_by}
 use Rattle.dasd_volumes.specs.declared.forms.Style.{Style}
-use Rattle.dasd_jobs.specs.Sources.{SourceFile, OpenedState, OpensPaths, volume_in}
-use Rattle.dasd_jobs.specs.Unopened.{NotOpened}
+use Rattle.dasd_jobs.specs.Sources.{OpenedState, volume_in}
 use Rattle.dasd_run.specs.Compared.{one_of, other_of, ComparesVolumes}
 use Rattle.dasd_run.specs.Paths.{quoted_paths}
 use Rattle.dasd_run.specs.Printed.{style_of}
@@ -11,18 +10,16 @@ use Rattle.dasd_run.proofs.archive.compare_both.Goals as goal
 
 pub returns-clause-compares : goal.returns-clause-compares
 returns-clause-compares g c = rw (← c.host.view_is) (inr (record {
-  between = between;
+  between = g.F.ImageFiles.opened c.open_volume.new.files;
   so = record {
     geometry = v.geometry;
     contents = v.contents;
-    opens = subst (λ paths. OpensPaths paths v.contents before between) (ap (map (λ path. path.now)) c.as_slice-one.ensures.value)
-        c.in_ok-volume.ensures.opens;
+    opens = rw c.as_slice-one.ensures.value at c.in_ok-volume.ensures.opens;
     mounts = c.in_ok-volume.ensures.mounts;
     so = record {
       geometry = w.geometry;
       contents = w.contents;
-      opens = subst (λ paths. OpensPaths paths w.contents between now) (ap (map (λ path. path.now)) c.as_slice-other.ensures.value)
-          c.in_ok-beside.ensures.opens;
+      opens = rw c.as_slice-other.ensures.value at c.in_ok-beside.ensures.opens;
       mounts = c.in_ok-beside.ensures.mounts;
       so = compares;
     };
@@ -34,15 +31,6 @@ returns-clause-compares g c = rw (← c.host.view_is) (inr (record {
 
     w : OpenedState
     w = c.in_ok-beside.beside
-
-    before : List SourceFile
-    before = g.F.ImageFiles.opened c.host.inside.files
-
-    between : List SourceFile
-    between = g.F.ImageFiles.opened c.open_volume.new.files
-
-    now : List SourceFile
-    now = g.F.ImageFiles.opened c.open_volume-2.new.files
 
     Compares : Style → (path other : List ℕ) → Type 0
     Compares style path other =
@@ -67,23 +55,16 @@ returns-clause-compares g c = rw (← c.host.view_is) (inr (record {
 -- the other volume is not opened
 pub returns-in_err-beside-clause-compares : goal.returns-in_err-beside-clause-compares
 returns-in_err-beside-clause-compares g c =
-    let opened = g.F.ImageFiles.opened in
-    let before = opened c.host.inside.files in
-    let between = opened c.open_volume.new.files in
-    let now = opened c.open_volume-2.new.files in
-    let v = c.in_ok-volume.volume in
-    let one_is = ap (map (λ path. path.now)) c.as_slice-one.ensures.value in
-    let other_is = ap (map (λ path. path.now)) c.as_slice-other.ensures.value in
-    let f = c.in_err-beside.field-0.0 in
     let p = err_from_is_err_and c.from_residual-in_err-beside.result c.from_residual-in_err-beside.ensures.1 in
-    rw (p.1, p.2, ← c.host.view_is) (inl (inr (
-      between,
+    rw (p.1, p.2, ← c.host.view_is, ← c.as_slice-one.ensures.value, ← c.as_slice-other.ensures.value)
+    (inl (inr (
+      g.F.ImageFiles.opened c.open_volume.new.files,
       record {
-        geometry = v.geometry;
-        contents = v.contents;
-        opens = subst (λ paths. OpensPaths paths v.contents before between) one_is c.in_ok-volume.ensures.opens;
+        geometry = c.in_ok-volume.volume.geometry;
+        contents = c.in_ok-volume.volume.contents;
+        opens = c.in_ok-volume.ensures.opens;
         mounts = c.in_ok-volume.ensures.mounts;
         so = tt;
       },
-      (subst (λ paths. NotOpened c.args.asked.now.as_far f paths between now) other_is c.in_err-beside.ensures.not_opened, refl),
+      (c.in_err-beside.ensures.not_opened, refl),
     )))

@@ -22,16 +22,9 @@ pub returns-in_err-has_records : goal.returns-in_err-has_records
 returns-in_err-has_records g c =
     let p = err_from_is_err_and c.from_residual.result c.from_residual.ensures.1 in
     let f = c.in_err-has_records.field-0.0 in
-    let writer = seen_by g.W.Write.contents c.args.writer.now in
-    rw (p.1, p.2) (inl (
-      inl (
-        rw c.geometry.ensures.geometry at c.in-Some.ensures.exists,
-        Err f,
-        refl,
-        (λ slots known. none_printed writer _, none_written (Unit {0}) f writer c.in_err-has_records.ensures.fault, tt),
-      ),
-      tt,
-    ))
+    let none = none_written (Unit {0}) f (seen_by g.W.Write.contents c.args.writer.now) c.in_err-has_records.ensures.fault in
+    let exists = rw c.geometry.ensures.geometry at c.in-Some.ensures.exists in
+    rw (p.1, p.2) (inl (inl (exists, Err f, refl, (λ slots known. none_printed _ _, none, tt)), tt))
 
 -- the part is dumped
 pub returns : goal.returns
@@ -42,13 +35,10 @@ returns g c =
       | else-names-via-else-names w ↦ ap volume w.volume-is
     ] in
     let dumped = c.in_ok-dump.ensures in
+    let exists = rw c.geometry.ensures.geometry at c.in-Some.ensures.exists in
+    let lines = rw (c.in-Some.ensures.part, same) at dumped.lines in
     inl (
-      inl (
-        rw c.geometry.ensures.geometry at c.in-Some.ensures.exists,
-        Ok tt,
-        refl,
-        (rw (c.in-Some.ensures.part, same) at dumped.lines, dumped.writes, dumped.flushed),
-      ),
+      inl (exists, Ok tt, refl, (lines, dumped.writes, dumped.flushed)),
       λ names. elim c.else-names.branch [
         | else-names-via-then-names+in_ok-has_records+else-not-branch w ↦
             rw (w.if-not-branch.false, c.in-Some.ensures.part) at w.in_ok-has_records.ensures.tells
@@ -66,12 +56,6 @@ returns-in_err-dump g c =
       | else-names-via-else-names w ↦ ap volume w.volume-is
     ] in
     let dumped = c.in_err-dump.ensures in
-    rw (p.1, p.2) (inl (
-      inl (
-        rw c.geometry.ensures.geometry at c.in-Some.ensures.exists,
-        Err c.in_err-dump.field-0.0,
-        refl,
-        (rw (c.in-Some.ensures.part, same) at dumped.lines, dumped.writes, tt),
-      ),
-      tt,
-    ))
+    let exists = rw c.geometry.ensures.geometry at c.in-Some.ensures.exists in
+    let lines = rw (c.in-Some.ensures.part, same) at dumped.lines in
+    rw (p.1, p.2) (inl (inl (exists, Err c.in_err-dump.field-0.0, refl, (lines, dumped.writes, tt)), tt))

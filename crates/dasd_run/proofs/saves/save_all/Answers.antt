@@ -1,10 +1,7 @@
-use Rattle.std.proofs.Common.{◌≡◌, ◌∙◌, ◌++◌, List, ap, subst, sym, refl, None, slice_index_or, arith}
+use Rattle.std.proofs.Common.{◌∙◌, ◌++◌, ap, sym, refl, None, arith}
 use Rattle.std.proofs.lemmas.List.{get_or-set_other}
-use Rattle.dasd_jobs.specs.Back.{IsWritten}
-use Rattle.dasd_jobs.specs.Written.{Replaced, files_of}
-use Rattle.dasd_words.specs.declared.volumes.Volume.{Volume}
-use Rattle.dasd_run.specs.Saves.{paths_of}
-use Rattle.dasd_run.proofs.Saving.{Given, none_yet, none_there, saved_there, none_left}
+use Rattle.dasd_jobs.specs.Written.{files_of}
+use Rattle.dasd_run.proofs.Saving.{none_yet, none_there, saved_there, none_left}
 use Rattle.dasd_run.proofs.saves.save_all.Goals.{in-Some+in-Ok, in_default}
 use Rattle.dasd_run.proofs.saves.save_all.Goals as goal
 
@@ -12,11 +9,7 @@ use Rattle.dasd_run.proofs.saves.save_all.Goals as goal
 pub returns-in-Ok-put_all-clause-saves : goal.returns-in-Ok-put_all-clause-saves
 returns-in-Ok-put_all-clause-saves g c =
     let i = c.loop-i.invariant in
-    let new = files_of g.F.Draft.ImageStore.content c.loop-i.new.items in
-    let now = g.F.ImageFiles.written c.put_all.new.self in
-    let front = g.F.ImageFiles.written c.args.files.now in
-    let is : now ≡ front ++ new = c.in-Ok-put_all.ensures.ok ∙ ap (λ (l : List Replaced). l ++ new) i.written in
-    i.whole now (none_left c.args.volumes.now c.args.images.now c.loop-i.i (front ++ new) now (omega arith) is)
+    i.whole _ (none_left c.args.volumes.now c.args.images.now c.loop-i.i _ _ (omega arith) (rw i.written at c.in-Ok-put_all.ensures.ok))
 
 -- none is
 pub returns-in-Err-put_all-clause-saves : goal.returns-in-Err-put_all-clause-saves
@@ -28,9 +21,7 @@ returns-in-Err-clause-saves g c = (c.in-Err.ensures.kept ∙ c.loop-i.invariant.
 pub loop-i-init : goal.loop-i-init
 loop-i-init g c = record {
   same = λ k above. refl;
-  whole = λ now.
-      none_yet c.args.volumes.now c.args.images.now (g.F.ImageFiles.written c.args.files.now) _ now
-      (ap (files_of g.F.Draft.ImageStore.content) c.new-new.ensures.items);
+  whole = λ now. none_yet c.args.volumes.now c.args.images.now _ _ now (ap (files_of g.F.Draft.ImageStore.content) c.new-new.ensures.items);
   written = refl;
   opened = refl;
 }
@@ -45,19 +36,16 @@ loop-i-preserved g c =
     let before = files_of content c.loop-i.new.items in
     record {
       same = λ k above.
-          subst (λ (ds : List Given). slice_index_or ds k None ≡ slice_index_or c.args.images.now k None) (sym c.take_image.ensures.others)
+          rw c.take_image.ensures.others
           (get_or-set_other c.loop-i.images i k None None (omega arith) ∙ c.loop-i.invariant.same k (omega arith));
       whole = λ now rest.
           c.loop-i.invariant.whole now
           (elim c.match-take_image.branch [
             | in-Some+in-Ok w ↦
                 let after = files_of content w.begin_volume.new.new.items in
-                saved_there vs ds i w.index-volumes-i.result (w.in-Some.field-0-0, w.in-Some.image) front before after now (record {
-                  inside = c.loop-i-test.true;
-                  there = sym (w.in-Some.ensures.taken ∙ c.loop-i.invariant.same i (omega arith));
-                })
-                (subst (λ (v : Volume). IsWritten (paths_of v.source) w.in-Some.image before after)
-                w.index-volumes-i.is w.in-Ok.ensures.begins)
+                saved_there vs ds i w.index-volumes-i.result (w.in-Some.field-0-0, w.in-Some.image) front before after now
+                (c.loop-i-test.true, sym (w.in-Some.ensures.taken ∙ c.loop-i.invariant.same i (omega arith)))
+                (rw w.index-volumes-i.is at w.in-Ok.ensures.begins)
                 (rw w.new-is at rest)
             | in_default w ↦
                 none_there vs ds i (front ++ before) now c.loop-i-test.true

@@ -15,12 +15,8 @@ returns-in_err-check_heads g c =
     let p = err_from_is_err_and c.from_residual.result c.from_residual.ensures.1 in
     let f = c.in_err-check_heads.field-0.0 in
     let heads = c.in_err-check_heads.ensures in
-    rw (p.1, p.2) (
-      Err f,
-      refl,
-      tt,
-      (λ slots known. front_before _ _ _ _ heads.found, writes_told (Unit {0}) Tally f _ _ heads.writes, tt),
-    )
+    rw (p.1, p.2)
+    (Err f, refl, tt, (λ slots known. front_before _ _ _ _ heads.found, writes_told (Unit {0}) Tally f _ _ heads.writes, tt))
 
 pub returns : goal.returns
 returns g c =

@@ -4,20 +4,13 @@ use Rattle.dasd_run.proofs.vtoc.list_contents.Goals as goal
 pub returns-clause-lists : goal.returns-clause-lists
 returns-clause-lists g c =
     let v = c.in_ok-volume.volume in
-    rw (← c.host.view_is) (inr (record {
+    rw (← c.host.view_is, ← c.as_slice-paths.ensures.value)
+    (rw (← (c.as_str.ensures.value ∙ c.in_ok-path.ensures.text), ← c.path_if-json.ensures) (inr (record {
       geometry = v.geometry;
       contents = v.contents;
-      opens = rw c.as_slice-paths.ensures.value at c.in_ok-volume.ensures.opens;
+      opens = c.in_ok-volume.ensures.opens;
       mounts = c.in_ok-volume.ensures.mounts;
       reach = c.reach-reach.result;
       is_reach = c.reach-reach.ensures;
-      so = (
-        c.print_contents-printed.result,
-        c.with_reach.ensures,
-        rw (
-          c.path_if-json.ensures,
-          c.as_str.ensures.value ∙ c.in_ok-path.ensures.text,
-          c.as_slice-paths.ensures.value,
-        ) at c.print_contents-printed.ensures,
-      );
-    }))
+      so = (c.print_contents-printed.result, c.with_reach.ensures, c.print_contents-printed.ensures);
+    })))
