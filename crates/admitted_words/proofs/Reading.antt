@@ -82,20 +82,7 @@ by_command line (request.LoadMember asked) h e = writing line (codes "load") _ r
 by_command line (request.LoadAll asked) h e = writing line (codes "load") _ refl (left _ _ (left _ _ h)) e
 by_command line (request.Run asked) h e =
     saving line asked.saves (left _ _ (left _ _ (left _ _ h))) (left _ _ (right _ _ (left _ _ h))) e
-by_command line (request.List paths) h e = refl
-by_command line (request.ListPart volume part) h e = refl
-by_command line (request.Check paths) h e = refl
-by_command line (request.CheckStrictly asked) h e = refl
-by_command line (request.CheckContents volume) h e = refl
-by_command line (request.Dump volume part) h e = refl
-by_command line (request.Compare volumes) h e = refl
-by_command line (request.Hash asked) h e = refl
-by_command line (request.ListContents volume) h e = refl
-by_command line (request.ListDetails asked) h e = refl
-by_command line (request.ListMembers asked) h e = refl
-by_command line (request.Explain noted) h e = refl
-by_command line (request.Assemble path) h e = refl
-by_command line (request.Disassemble path) h e = refl
+by_command line reads h e = refl
 
 -- what cat prints goes to no file
 no_file : (line : Line) (place : List ℕ) (of : FileForm) (target : Option (List ℕ)) → takes_place line place of target ≡ true →
@@ -149,20 +136,7 @@ by_place line (request.Relabel asked) h e = never h
 by_place line (request.Recover asked) h e = never h
 by_place line (request.LoadAll asked) h e = never h
 by_place line (request.Run asked) h e = never h
-by_place line (request.List paths) h e = refl
-by_place line (request.ListPart volume part) h e = refl
-by_place line (request.Check paths) h e = refl
-by_place line (request.CheckStrictly asked) h e = refl
-by_place line (request.CheckContents volume) h e = refl
-by_place line (request.Dump volume part) h e = refl
-by_place line (request.Compare volumes) h e = refl
-by_place line (request.Hash asked) h e = refl
-by_place line (request.ListContents volume) h e = refl
-by_place line (request.ListDetails asked) h e = refl
-by_place line (request.ListMembers asked) h e = refl
-by_place line (request.Explain noted) h e = refl
-by_place line (request.Assemble path) h e = refl
-by_place line (request.Disassemble path) h e = refl
+by_place line reads h e = refl
 
 either : {X : Type 0} (a b : Bool) → (a ≡ true → X) → (b ≡ true → X) → (a || b) ≡ true → X
 either true b f g h = f refl
