@@ -15,7 +15,7 @@ ROWS = {"channel": 117, "traces": 64, "cut_programs": 32, "drives": 133, "progra
         "words": 25}
 # those over real files
 FILES = {"archives": 8, "bounded_memory": 5, "changes": 9, "cut_offs": 11, "deletes": 13, "extracts": 8, "findings": 16, "folder_loads": 12,
-         "folders": 6, "formats": 10, "free_tracks": 6, "hashes": 12, "host": 38, "in_packs": 12, "in_place": 19, "keyed_extracts": 8, "labels": 5,
+         "folders": 6, "formats": 10, "free_tracks": 6, "hashes": 12, "host": 39, "in_packs": 12, "in_place": 19, "keyed_extracts": 8, "labels": 5,
          "lengths": 15, "links": 4, "lists": 8, "load_forms": 9, "loads": 11, "member_changes": 11, "members": 9, "options": 12, "packs": 19, "races": 15,
          "reasons": 12, "recovers": 14, "refused_memory": 34, "runs": 10, "setups": 0, "shared_saves": 4, "sweeps": 4, "whole": 10}
 
